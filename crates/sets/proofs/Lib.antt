@@ -1,0 +1,4 @@
+pub mod Truth
+pub mod Items
+pub mod Order
+pub mod Counts

@@ -1,0 +1,1 @@
+// Sets held in words.
