@@ -1,20 +1,20 @@
 -- How many items a set has. `ones` is the language's count of ones.
 -- Assumes nothing.
 use mathlib.Core.Path.{_≡_, refl, sym, _∙_, ap, ap₂}
-use mathlib.Core.Bool.{Bool, true, false, So, false≢true, true≢false}
-use mathlib.Core.Logic.{_↔_, _≢_, _⊎_, ⊎-elim}
-use Prim.Native.Nat.{ℕ, zero, suc, _+_, _-_, _*_, _/_, _%_, _^_, _≤_, _<_}
-use native.Mathlib.Nat.{le-refl, le-step, lt-suc-self, zero-add, add-zero, one-mul, zero-mul, pow-suc, mod-lt, lt-of-lt-of-le, not-suc-le-zero, add-comm, le-trans, suc-mul, not-suc-le-self}
+use mathlib.Core.Bool.{Bool, true, false, So}
+use mathlib.Core.Logic.{_≢_}
+use Prim.Native.Nat.{ℕ, zero, suc, _+_, _*_, _/_, _%_, _^_, _≤_, _<_}
+use native.Mathlib.Nat.{le-step, lt-suc-self, add-zero, one-mul, zero-mul, mod-lt, lt-of-lt-of-le, not-suc-le-zero, add-comm, le-trans, suc-mul, not-suc-le-self}
 use native.Mathlib.Numerals.{add-one}
 use native.Mathlib.Omega.{arith}
-use lib.Dec.{eqb, ltb}
+use lib.Dec.{eqb}
 use lib.Pow.{pow-pos, pow-mono, split, shr-lt}
-use lib.Count.{ones, ones-step, ones-cat, ones-le}
+use lib.Count.{ones, ones-cat}
 use Rattle.sets.specs.Truth.{_and_, _or_, isnt, bit, total}
 use Rattle.sets.specs.Sets.{has, _∩_, _∪_, _∖_, single, subset, properSubset, collect}
-use Rattle.sets.proofs.Truth.{by-test, not-So, So-not, eqb-iff, either, equal-or, below-suc, total-same}
-use Rattle.sets.proofs.Items.{digit, has-top, has-zero, has-∩, has-∪, has-∖, has-low, has-above, item-of, empty-of, below-power, same-items}
-use Rattle.sets.proofs.Order.{single-iff, has-with, with-without, ∩-iff, ∖-iff, ∖-lt, ∩-lt, ∪-lt, subset-iff, subset-∩-eq, ∩-comm, proper-iff, proper-lacks, has-collect, collect-lt, has-single, single-lt}
+use Rattle.sets.proofs.Truth.{So-not, equal-or, below-suc, total-same}
+use Rattle.sets.proofs.Items.{digit, has-top, has-∩, has-∪, has-∖, has-low, empty-of, below-power}
+use Rattle.sets.proofs.Order.{single-iff, has-with, with-without, ∖-iff, ∖-lt, ∩-lt, ∪-lt, subset-iff, subset-∩-eq, ∩-comm, proper-iff, proper-lacks, has-collect, collect-lt}
 
 -- ---- sums
 
@@ -63,7 +63,7 @@ ones-total (suc n) s h =
     let parts : ones s ≡ ones (s / 2 ^ n) + ones (s % 2 ^ n) = ap ones (sym (split s n)) ∙ ones-cat n (s / 2 ^ n) (s % 2 ^ n) l in
     let top : ones (s / 2 ^ n) ≡ bit (has s n) = ones-digit (s / 2 ^ n) d ∙ ap bit (sym (has-top s n)) in
     let rest : ones (s % 2 ^ n) ≡ total n (λ i. bit (has s i)) =
-        ones-total n (s % 2 ^ n) l ∙ total-same n (λ i. bit (has (s % 2 ^ n) i)) (λ i. bit (has s i)) (λ i b. ap bit (has-low n s i b)) in
+    ones-total n (s % 2 ^ n) l ∙ total-same n (λ i. bit (has (s % 2 ^ n) i)) (λ i. bit (has s i)) (λ i b. ap bit (has-low n s i b)) in
     omega arith
 
 -- ---- counts of the operations
@@ -113,7 +113,7 @@ ones-zero = refl
 
 pub ones-single : (i : ℕ) → ones (single i) ≡ 1
 unfolding single ones
-ones-single i = ap ones (sym (add-zero (2 ^ i) ) ∙ ap (λ (x : ℕ). x + 0) (sym (one-mul (2 ^ i)))) ∙ ones-cat i 1 0 (pow-pos i)
+ones-single i = ap ones (sym (add-zero (2 ^ i)) ∙ ap (λ (x : ℕ). x + 0) (sym (one-mul (2 ^ i)))) ∙ ones-cat i 1 0 (pow-pos i)
 
 -- one item out is one fewer
 pub ones-without : (s i : ℕ) → So (has s i) → suc (ones (s ∖ single i)) ≡ ones s

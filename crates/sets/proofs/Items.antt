@@ -1,18 +1,18 @@
 -- What each operation on sets means item by item, and that sets with the same items are equal.
 -- Assumes nothing.
-use mathlib.Core.Path.{_≡_, refl, sym, _∙_, ap, ap₂}
-use mathlib.Core.Bool.{Bool, true, false, So, false≢true, true≢false}
-use mathlib.Core.Logic.{_↔_, _≢_, _⊎_, ⊎-elim}
+use mathlib.Core.Path.{_≡_, refl, sym, _∙_, ap}
+use mathlib.Core.Bool.{Bool, true, false, So, false≢true}
+use mathlib.Core.Logic.{_≢_, ⊎-elim}
 use Prim.Native.Nat.{ℕ, zero, suc, _+_, _-_, _*_, _/_, _%_, _^_, _≤_, _<_, min, max}
-use native.Mathlib.Nat.{not-suc-le-zero, le-refl, le-step, lt-suc-self, add-suc, zero-add, add-zero, one-mul, zero-mul, mul-one, pow-suc, div-one, mod-lt, mod-eq-of-lt, div-add-mod', zero-div, zero-mod, div-eq-of-lt, lt-of-lt-of-le, le-trans, add-comm}
+use native.Mathlib.Nat.{pow-suc, div-one, mod-lt, zero-div, div-eq-of-lt, lt-of-lt-of-le, add-comm}
 use native.Mathlib.Numerals.{add-one}
 use native.Mathlib.Omega.{arith}
-use lib.Dec.{eqb, ltb}
-use lib.Pow.{pow-pos, pow-mono, pow-lt, pow-add, shr-shr, split, high, low, shl-shr, shr-lt, mod-mod-pow, field}
-use lib.Bits.{bitAnd, bitOr, bitXor, differ, and-shr, or-shr, xor-shr, and-mod, or-mod, xor-mod, and-step, or-step, xor-step}
-use Rattle.sets.specs.Truth.{_and_, _or_, _implies_, isnt, if_then_else_, any, all, none}
-use Rattle.sets.specs.Sets.{has, _∩_, _∪_, _∖_, single, subset, properSubset, collect}
-use Rattle.sets.proofs.Truth.{by-test, same-test, not-So, So-not, and-iff, or-iff, isnt-iff, eqb-iff, ltb-iff, either, equal-or, find, if-true, if-false}
+use lib.Dec.{eqb}
+use lib.Pow.{pow-pos, pow-mono, shr-shr, low, shr-lt, mod-mod-pow, field}
+use lib.Bits.{bitAnd, bitOr, bitXor, differ, and-shr, or-shr, xor-shr, and-step, or-step, xor-step}
+use Rattle.sets.specs.Truth.{_and_, _or_, isnt}
+use Rattle.sets.specs.Sets.{has, _∩_, _∪_, _∖_}
+use Rattle.sets.proofs.Truth.{same-test, not-So, So-not, eqb-iff, either, equal-or, find}
 
 -- ---- one binary digit
 
@@ -118,7 +118,7 @@ same-below zero a b ha hb h = omega arith
 same-below (suc n) a b ha hb h =
     let low : a % 2 ≡ b % 2 = same-digit (a % 2) (b % 2) (mod2 a) (mod2 b) (sym (has-first a) ∙ h 0 (omega arith) ∙ has-first b) in
     let rest : a / 2 ≡ b / 2 =
-        same-below n (a / 2) (b / 2) (half-lt n a ha) (half-lt n b hb) (λ i l. sym (has-rest a i) ∙ h (suc i) (omega arith) ∙ has-rest b i) in
+    same-below n (a / 2) (b / 2) (half-lt n a ha) (half-lt n b hb) (λ i l. sym (has-rest a i) ∙ h (suc i) (omega arith) ∙ has-rest b i) in
     omega arith
 
 pub below-power : (s : ℕ) → s < 2 ^ s
@@ -154,8 +154,8 @@ has-low n s i h =
 pub below-of-items : (n s : ℕ) → ((i : ℕ) → n ≤ i → has s i ≡ false) → s < 2 ^ n
 below-of-items n s h =
     let e : s ≡ s % 2 ^ n =
-        same-items s (s % 2 ^ n)
-        (λ i. either i n (λ l. sym (has-low n s i l)) (λ l. h i l ∙ sym (has-above n (s % 2 ^ n) i (mod-lt s (pow-pos n)) l))) in
+    same-items s (s % 2 ^ n)
+    (λ i. either i n (λ l. sym (has-low n s i l)) (λ l. h i l ∙ sym (has-above n (s % 2 ^ n) i (mod-lt s (pow-pos n)) l))) in
     rw e (mod-lt s (pow-pos n))
 
 -- a set that is not empty has an item

@@ -2,3 +2,9 @@ pub mod Truth
 pub mod Items
 pub mod Order
 pub mod Counts
+pub mod Words
+pub mod Compare
+pub mod Below
+pub mod Extremes
+pub mod Written
+pub mod Held

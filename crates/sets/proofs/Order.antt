@@ -1,20 +1,20 @@
 -- Subsets: as implications, as an order, and beside the order of numbers. Comprehension. One item.
 -- Assumes nothing.
-use mathlib.Core.Path.{_≡_, refl, sym, _∙_, ap, ap₂}
-use mathlib.Core.Bool.{Bool, true, false, So, false≢true, true≢false}
+use mathlib.Core.Path.{_≡_, refl, sym, _∙_, ap}
+use mathlib.Core.Bool.{Bool, true, false, So}
 use mathlib.Core.Logic.{_↔_, _≢_, _⊎_, ⊎-elim}
-use Prim.Native.Nat.{ℕ, zero, suc, _+_, _-_, _*_, _/_, _%_, _^_, _≤_, _<_}
-use native.Mathlib.Nat.{le-refl, le-step, lt-suc-self, zero-add, one-mul, zero-mul, div-eq-of-lt, lt-of-lt-of-le, mod-eq-of-lt, div-self, le-of-eq, pow-suc, suc-inj, pow-succ', lt-of-le-of-lt, not-suc-le-zero}
+use Prim.Native.Nat.{ℕ, zero, suc, _+_, _-_, _/_, _%_, _^_, _≤_, _<_}
+use native.Mathlib.Nat.{pow-suc, suc-inj, pow-succ', lt-of-le-of-lt, not-suc-le-zero}
 use native.Mathlib.Omega.{arith}
 use lib.Dec.{eqb, ltb}
-use lib.Pow.{pow-pos, pow-mono, pow-lt, high, low, shl-shr}
+use lib.Pow.{pow-pos, pow-lt, high, low}
 use lib.Bits.{bitAnd, and-le-r, or-lt, and-comm, and-self, and-zero-l, or-zero-l, or-zero-r}
 use lib.Arith.{lt-of-le-ne, digits-lt}
 use borrow.Author.Tests.{ne-eqb}
-use Rattle.sets.specs.Truth.{_and_, _or_, _implies_, isnt, bit}
+use Rattle.sets.specs.Truth.{isnt, if_then_else_, bit}
 use Rattle.sets.specs.Sets.{has, _∩_, _∪_, _∖_, single, subset, properSubset, collect}
-use Rattle.sets.proofs.Truth.{by-test, same-test, not-So, So-not, and-iff, or-iff, isnt-iff, eqb-iff, ltb-iff, either, equal-or, below-suc, find, if-true, if-false}
-use Rattle.sets.proofs.Items.{has-top, same-below, has-zero, has-first, has-rest, empty-of, has-∩, has-∪, has-∖, has-low, has-above, item-below, same-items, same-set, below-of-items, below-power, item-of}
+use Rattle.sets.proofs.Truth.{by-test, same-test, not-So, So-not, and-iff, or-iff, isnt-iff, eqb-iff, ltb-iff, below-suc, equal-or, if-true, if-false}
+use Rattle.sets.proofs.Items.{has-top, same-below, has-zero, has-first, has-rest, empty-of, has-∩, has-∪, has-∖, has-low, has-above, item-below, same-set, below-of-items, item-of}
 
 -- ---- the operations as statements
 
@@ -26,9 +26,10 @@ pub ∪-iff : (a b i : ℕ) → So (has (a ∪ b) i) ↔ (So (has a i) ⊎ So (h
 
 pub ∖-iff : (a b i : ℕ) → So (has (a ∖ b) i) ↔ (So (has a i) × (So (has b i) → ⊥))
 ∖-iff a b i =
-    rw (has-∖ a b i)
-    (λ h. let k = and-iff (has a i) (isnt (has b i)) .0 h in (k .0, isnt-iff (has b i) .0 (k .1)),
-    λ k. and-iff (has a i) (isnt (has b i)) .1 (k .0, isnt-iff (has b i) .1 (k .1)))
+    rw (has-∖ a b i) (
+      λ h. let k = and-iff (has a i) (isnt (has b i)) .0 h in (k .0, isnt-iff (has b i) .0 (k .1)),
+      λ k. and-iff (has a i) (isnt (has b i)) .1 (k .0, isnt-iff (has b i) .1 (k .1)),
+    )
 
 -- ---- one item
 
@@ -101,9 +102,10 @@ pub ∖-lt : (n a b : ℕ) → a < 2 ^ n → a ∖ b < 2 ^ n
 
 pub subset-iff : (a b : ℕ) → So (subset a b) ↔ ((i : ℕ) → So (has a i) → So (has b i))
 unfolding subset
-subset-iff a b =
-    (λ h i t. let e : a ∩ b ≡ a = eqb-iff (a ∩ b) a .0 h in ∩-iff a b i .0 (rw e t) .1,
-    λ f. eqb-iff (a ∩ b) a .1 (same-set (a ∩ b) a (λ i t. ∩-iff a b i .0 t .0) (λ i t. ∩-iff a b i .1 (t, f i t))))
+subset-iff a b = (
+  λ h i t. let e : a ∩ b ≡ a = eqb-iff (a ∩ b) a .0 h in ∩-iff a b i .0 (rw e t) .1,
+  λ f. eqb-iff (a ∩ b) a .1 (same-set (a ∩ b) a (λ i t. ∩-iff a b i .0 t .0) (λ i t. ∩-iff a b i .1 (t, f i t))),
+)
 
 pub subset-refl : (a : ℕ) → So (subset a a)
 subset-refl a = subset-iff a a .1 (λ i t. t)
@@ -166,9 +168,10 @@ disjoint-iff a b =
 
 pub proper-iff : (a b : ℕ) → So (properSubset a b) ↔ (So (subset a b) × (a ≢ b))
 unfolding properSubset
-proper-iff a b =
-    (λ h. let k = and-iff (subset a b) (isnt (eqb a b)) .0 h in (k .0, λ e. isnt-iff (eqb a b) .0 (k .1) (eqb-iff a b .1 e)),
-    λ k. and-iff (subset a b) (isnt (eqb a b)) .1 (k .0, isnt-iff (eqb a b) .1 (λ h. k .1 (eqb-iff a b .0 h))))
+proper-iff a b = (
+  λ h. let k = and-iff (subset a b) (isnt (eqb a b)) .0 h in (k .0, λ e. isnt-iff (eqb a b) .0 (k .1) (eqb-iff a b .1 e)),
+  λ k. and-iff (subset a b) (isnt (eqb a b)) .1 (k .0, isnt-iff (eqb a b) .1 (λ h. k .1 (eqb-iff a b .0 h))),
+)
 
 pub proper-subset : (a b : ℕ) → So (properSubset a b) → So (subset a b)
 proper-subset a b h = proper-iff a b .0 h .0
@@ -247,3 +250,31 @@ pub collect-all : (n : ℕ) → collect n (λ i. true) ≡ 2 ^ n - 1
 unfolding collect bit
 collect-all zero = refl
 collect-all (suc n) = rw (collect-all n) (omega (arith, pow-suc 2 n, pow-pos n))
+
+-- one index more
+pub collect-more : (n s : ℕ) (f : ℕ → Bool) → s ≡ collect n f → (if f n then s ∪ single n else s) ≡ collect (n + 1) f
+collect-more n s f e =
+    same-set (if f n then s ∪ single n else s) (collect (n + 1) f)
+    (λ i t.
+    by-test (f n)
+    (λ h.
+    ⊎-elim (λ x. old i (rw e at x)) (λ x. let d : n ≡ i = single-iff n i .0 x in collect-iff (n + 1) f i .1 (omega arith, rw d at h))
+    (∪-iff s (single n) i .0 (rw (if-true (f n) (s ∪ single n) s h) at t)))
+    (λ h. old i (rw (if-false (f n) (s ∪ single n) s h, e) at t)))
+    (λ i t.
+    let a = collect-iff (n + 1) f i .0 t in
+    equal-or i n
+    (λ (d : i ≡ n). let h : So (f n) = rw d at (a .1) in rw (if-true (f n) (s ∪ single n) s h) (∪-iff s (single n) i .1 (_⊎_.inr (single-iff n i .1 (sym d)))))
+    (λ d.
+    let x : So (has s i) = rw e (collect-iff n f i .1 (omega arith, a .1)) in
+    by-test (f n) (λ h. rw (if-true (f n) (s ∪ single n) s h) (∪-iff s (single n) i .1 (_⊎_.inl x))) (λ h. rw (if-false (f n) (s ∪ single n) s h) x)))
+  where
+    old : (i : ℕ) → So (has (collect n f) i) → So (has (collect (n + 1) f) i)
+    old i x = let a = collect-iff n f i .0 x in collect-iff (n + 1) f i .1 (omega (arith, a .0), a .1)
+
+-- an item put in where a test holds: what an insertion below the width gives, and what leaving it out does
+pub put-in : (t : Bool) (r s i w : ℕ) → i < w → So t → r ≡ (if ltb i w then s ∪ single i else s) → r ≡ (if t then s ∪ single i else s)
+put-in t r s i w l h e = e ∙ if-true (ltb i w) (s ∪ single i) s (ltb-iff i w .1 l) ∙ sym (if-true t (s ∪ single i) s h)
+
+pub left-out : (t : Bool) (s i : ℕ) → t ≡ false → s ≡ (if t then s ∪ single i else s)
+left-out t s i h = sym (if-false t (s ∪ single i) s h)

@@ -1,15 +1,15 @@
 -- The tests of specs/Truth, each turned into the statement that it computes, and back.
 -- Assumes nothing.
-use mathlib.Core.Path.{_≡_, refl, sym, _∙_, ap}
+use mathlib.Core.Path.{_≡_, refl, sym, _∙_}
 use mathlib.Core.Bool.{Bool, true, false, So, false≢true, true≢false}
 use mathlib.Core.Logic.{_↔_, _≢_, _⊎_, ⊎-elim}
 use Prim.Native.Nat.{ℕ, zero, suc, _+_, _≤_, _<_}
-use native.Mathlib.Nat.{not-suc-le-zero, le-refl, le-step, lt-suc-self}
-use native.Mathlib.Decide.{decLt, decLe, ℕ-discrete}
+use native.Mathlib.Nat.{not-suc-le-zero, le-step, lt-suc-self}
+use native.Mathlib.Numerals.{add-one}
 use native.Mathlib.Omega.{arith}
 use lib.Dec.{eqb, ltb, leb}
 use lib.Arith.{lt-of-le-ne}
-use borrow.Author.Tests.{eqb-true, eqb-false, eq-eqb, ne-eqb, ltb-true, ltb-false, lt-ltb, le-ltb, leb-true, leb-false, le-leb, lt-leb}
+use borrow.Author.Tests.{eqb-true, eqb-false, eq-eqb, ltb-true, ltb-false, lt-ltb, leb-true, le-leb}
 use Rattle.sets.specs.Truth.{_and_, _or_, _implies_, isnt, if_then_else_, any, all, none, total}
 
 -- ---- one test
@@ -158,6 +158,17 @@ pub total-same : (n : ℕ) (f g : ℕ → ℕ) → ((i : ℕ) → i < n → f i 
 unfolding total
 total-same zero f g h = refl
 total-same (suc n) f g h = rw (h n (lt-suc-self n), total-same n f g (λ i l. h i (le-step l)))
+
+-- ---- a loop over the indices: it goes on, fails at one, or is through
+
+pub all-more : (i : ℕ) (f : ℕ → Bool) → So (all i f) → So (f i) → So (all (i + 1) f)
+all-more i f h t = all-of (i + 1) f (λ k l. below-suc k i (rw (add-one i) at l) (λ (e : k ≡ i). rw e t) (λ b. all-is i f h k b))
+
+pub all-fails : (n i : ℕ) (f : ℕ → Bool) → i < n → (So (f i) → ⊥) → false ≡ all n f
+all-fails n i f l d = sym (not-So (all n f) (λ h. d (all-is n f h i l)))
+
+pub all-through : (n i : ℕ) (f : ℕ → Bool) → n ≤ i → So (all i f) → true ≡ all n f
+all-through n i f l h = sym (all-of n f (λ k b. all-is i f h k (omega arith)))
 
 -- one `simp reflect at h` opens a test, one `simp reflect (..)` makes one
 pub ruleset reflect = (and-iff, or-iff, implies-iff, isnt-iff, any-iff, all-iff, none-iff, eqb-iff, ltb-iff, leb-iff)

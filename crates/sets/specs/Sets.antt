@@ -1,6 +1,6 @@
 -- A set is a natural number: item i is in it exactly when bit i of the number is 1. So sets compare as numbers.
 -- Assumes nothing.
-use mathlib.Core.Bool.{Bool, true, false}
+use mathlib.Core.Bool.{Bool}
 use Prim.Native.Nat.{ℕ, zero, suc, _+_, _*_, _/_, _%_, _^_}
 use lib.Dec.{eqb}
 use lib.Bits.{bitAnd, bitOr, bitXor}
@@ -8,7 +8,6 @@ use Rattle.sets.specs.Truth.{_and_, isnt, bit}
 
 infixl 62 _∩_
 infixl 58 _∪_ _∖_
-
 -- item i is in the set s
 unfoldable pub has : ℕ → ℕ → Bool
 has s i = eqb (s / 2 ^ i % 2) 1
@@ -21,7 +20,6 @@ unfoldable pub _∪_ : ℕ → ℕ → ℕ
 a ∪ b = bitOr a b
 
 unfoldable pub _∖_ : ℕ → ℕ → ℕ
-unfolding _∩_
 a ∖ b = bitXor a (a ∩ b)
 
 -- the set of the one item i
@@ -30,11 +28,9 @@ single i = 2 ^ i
 
 -- every item of a is in b; and a is not b
 unfoldable pub subset : ℕ → ℕ → Bool
-unfolding _∩_
 subset a b = eqb (a ∩ b) a
 
 unfoldable pub properSubset : ℕ → ℕ → Bool
-unfolding subset _and_ isnt
 properSubset a b = subset a b and isnt (eqb a b)
 
 -- the set of the items below n that pass the test f

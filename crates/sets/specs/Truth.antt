@@ -8,7 +8,6 @@ infixl 35 _and_
 infixl 30 _or_
 infixr 25 _implies_
 infixr 10 if_then_else_
-
 unfoldable pub _and_ : Bool → Bool → Bool
 true and b = b
 false and b = false
@@ -37,19 +36,16 @@ bit false = 0
 
 -- some index below n passes f
 unfoldable pub any : ℕ → (ℕ → Bool) → Bool
-unfolding _or_
 any zero f = false
 any (suc n) f = f n or any n f
 
 -- every index below n passes f
 unfoldable pub all : ℕ → (ℕ → Bool) → Bool
-unfolding _and_
 all zero f = true
 all (suc n) f = f n and all n f
 
 -- no index below n passes f
 unfoldable pub none : ℕ → (ℕ → Bool) → Bool
-unfolding _and_ isnt
 none zero f = true
 none (suc n) f = isnt (f n) and none n f
 

@@ -1,1 +1,9 @@
-// Sets held in words.
+// Sets held in 64-bit words and carried by value: item i is bit i mod 64 of word i / 64. specs/ says what each operation means.
+mod item;
+mod set128;
+mod set256;
+mod word;
+
+pub use item::Item;
+pub use set128::Set128;
+pub use set256::Set256;

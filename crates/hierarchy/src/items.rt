@@ -1,0 +1,29 @@
+// The lowest and the highest item of a set that has one.
+ghost use mathlib.Core.Path.{_≡_};
+ghost use mathlib.Core.Bool.{So};
+ghost use mathlib.Core.Logic.{_≢_};
+ghost use Prim.Native.Nat.{ℕ, _≤_, _<_};
+ghost use Rattle.sets.specs.Held.{set128};
+ghost use Rattle.hierarchy.specs.Tables.{Lowest, Highest};
+use sets::Item;
+use sets::Set128;
+
+pub fn lowest_item(s: Set128) -> usize
+    requires { ⌜ set128 s ≢ 0 ⌝ }
+    ensures { λ r. ⌜ Lowest (set128 s) r ⌝ }
+{
+    let Item::At(i) = s.lowest() else {
+        return 0;
+    };
+    i
+}
+
+pub fn highest_item(s: Set128) -> usize
+    requires { ⌜ set128 s ≢ 0 ⌝ }
+    ensures { λ r. ⌜ Highest (set128 s) r ⌝ }
+{
+    let Item::At(i) = s.highest() else {
+        return 0;
+    };
+    i
+}

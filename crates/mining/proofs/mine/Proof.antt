@@ -1,0 +1,90 @@
+-- The table has the candidates of the rows before place i.
+-- Assumes nothing.
+use Prim.Native.Nat.{_-_}
+use borrow.Author.Needs.{needs}
+use Rattle.mining.proofs.Persons.{Mining, mining-none, mining-table, mining-all, mining-more, mining-full}
+use Rattle.mining.proofs.mine.Statement.{statement}
+use Rattle.mining.proofs.mine.Tie as tie
+
+abbrev Inv-loop : tie.InvT-loop
+Inv-loop crew at n table₀ end count₀ i₀ table count i = Mining n crew at i table count
+
+abbrev μ-loop : tie.MeasureT-loop
+μ-loop crew at n table₀ end count₀ i₀ table count i = end - i
+
+mul-end : tie.Need-mul-end Inv-loop μ-loop
+mul-end c = search needs
+
+add-end : tie.Need-add-end Inv-loop μ-loop
+add-end c = search needs
+
+loop-holds : tie.Need-loop-holds Inv-loop μ-loop
+loop-holds c = mining-none _ _ _ _ (c .before .before .pre .1) (c .before .before .pre .2)
+
+add-loop : tie.Need-add-loop Inv-loop μ-loop
+add-loop c = search needs
+
+load256-requires : tie.Need-load256-requires Inv-loop μ-loop
+load256-requires c κs = search needs
+
+add-row-requires : tie.Need-add-row-requires Inv-loop μ-loop
+add-row-requires c κs =
+    let at-loop = c .before .before .before in
+    (at-loop .loop .inv .holds .frame, mining-table _ _ _ _ (at-loop .loop .inv))
+
+enum-known-k : tie.Need-enum-known-k Inv-loop μ-loop
+enum-known-k c = search needs
+
+enum-told : tie.Need-enum-told Inv-loop μ-loop
+enum-told c = search needs
+
+same-length : tie.Need-same-length Inv-loop μ-loop
+same-length c = search needs
+
+returns : tie.Need-returns Inv-loop μ-loop
+returns c =
+    let called = c .before .before .before .before in
+    let in-loop = called .before .before .before in
+    mining-full _ _ _ _ (in-loop .before .loop .inv) _ (called .before .before .load256 .ensures) (in-loop .loop-test .taken)
+    (rw (c .enum-told .given .1) at (called .add-row .ensures))
+
+add-i : tie.Need-add-i Inv-loop μ-loop
+add-i c = search needs
+
+loop-less : tie.Need-loop-less Inv-loop μ-loop
+loop-less c = search needs
+
+loop-again : tie.Need-loop-again Inv-loop μ-loop
+loop-again c =
+    let called = c .before .before .before .before .before in
+    let in-loop = called .before .before .before in
+    mining-more _ _ _ _ (in-loop .before .loop .inv) _ (called .before .before .load256 .ensures) (in-loop .loop-test .taken)
+    (rw (c .before .k .given .1) at (called .add-row .ensures)) (λ w. c .before .before .before .slice-known2 .given w .fits)
+
+same-length-2 : tie.Need-same-length-2 Inv-loop μ-loop
+same-length-2 c = search needs
+
+returns-2 : tie.Need-returns-2 Inv-loop μ-loop
+returns-2 c = mining-all _ _ _ _ (c .before .loop .inv) (c .loop-test .left)
+
+pub mine-spec : {M : Type 1} → statement M
+mine-spec =
+    tie.close
+    (tie.spec
+    Inv-loop
+    μ-loop
+    mul-end
+    add-end
+    loop-holds
+    add-loop
+    load256-requires
+    add-row-requires
+    enum-known-k
+    enum-told
+    same-length
+    returns
+    add-i
+    loop-less
+    loop-again
+    same-length-2
+    returns-2)

@@ -1,0 +1,65 @@
+-- What the functions promise of their answers, by the answers' cases. A table t with k sets has them at `rowsAt k t 0`.
+-- Assumes nothing.
+use mathlib.Core.Path.{_≡_}
+use mathlib.Core.List.{List, _∷_, _++_}
+use Prim.Native.Nat.{ℕ, _+_, _*_, _≤_, _<_}
+use lib.ListN.{length, getD, take, drop}
+use Rattle.sets.specs.Words.{word}
+use Rattle.sets.specs.Sets.{_∩_}
+use Rattle.sets.specs.Truth.{if_then_else_}
+use Rattle.model.specs.Candidates.{place}
+use Rattle.model.specs.Lists.{rowsAt}
+use Rattle.model.proofs.Candidates.{idle}
+use Rattle.mining.specs.declared.Found.{Found}
+use Rattle.mining.specs.declared.Found.the-variants.{At, Missing}
+use Rattle.mining.specs.declared.Admitted.{Admitted}
+use Rattle.mining.specs.declared.Admitted.the-variants as admitted
+use Rattle.mining.specs.declared.Mined.{Mined}
+use Rattle.mining.specs.declared.Mined.the-variants as mined
+
+-- place i of n growing sets is where x belongs, which is not one of them
+pub record Between (n : ℕ) (xs : List ℕ) (x i : ℕ) : Type 0 where
+  pub within : i ≤ n
+  pub before : (j : ℕ) → j < i → getD xs j 0 < x
+  pub after : (j : ℕ) → i ≤ j → j < n → x < getD xs j 0
+
+-- x looked for among n growing sets
+abbrev pub Finds : ℕ → List ℕ → ℕ → Found → Type 0
+Finds n xs x (At i) = (i < n) × (getD xs i 0 ≡ x)
+Finds n xs x (Missing i) = Between n xs x i
+
+-- x put at place i of a table's n sets, and the sets from there on one place higher
+pub record Inserts (n i x : ℕ) (t t' : List ℕ) : Type 0 where
+  pub rows : rowsAt (n + 1) t' 0 ≡ take i (rowsAt n t 0) ++ (x ∷ drop i (rowsAt n t 0))
+  pub rest : (w : ℕ) → 4 * (n + 1) ≤ w → getD t' w 0 ≡ getD t w 0
+
+-- a table of 512 words with k sets: there are at most 128, and zeros follow them
+pub record Framed (t : List ℕ) (k : ℕ) : Type 0 where
+  pub size : length t ≡ 512
+  pub few : k ≤ 128
+  pub rest : (i : ℕ) → 4 * k ≤ i → getD t i 0 ≡ 0
+
+-- the sets are xs
+pub record Holds (t : List ℕ) (k : ℕ) (xs : List ℕ) : Type 0 where
+  pub frame : Framed t k
+  pub rows : rowsAt k t 0 ≡ xs
+  pub count : k ≡ length xs
+
+-- a table that was to hold xs
+abbrev pub Admits : List ℕ → List ℕ → Admitted → Type 0
+Admits xs t (admitted.Count k) = Holds t k xs
+Admits xs t admitted.Full = 128 < length xs
+
+-- a table that holds xs, by its words
+pub record Written (t : List ℕ) (k : ℕ) (xs : List ℕ) : Type 0 where
+  pub holds : Holds t k xs
+  pub words : (i j : ℕ) → i < 128 → j < 4 → getD t (4 * i + j) 0 ≡ word (getD xs i 0) j
+
+-- a table that was to hold the candidates xs
+abbrev pub Mines : List ℕ → List ℕ → Mined → Type 0
+Mines xs t (mined.Count k) = Written t k xs
+Mines xs t mined.TooMany = 128 < length xs
+
+-- the intersection of r and x in a table that has both: it is placed, unless it is empty, r or x
+unfoldable pub met : ℕ → ℕ → List ℕ → List ℕ
+met r x xs = if idle r x then xs else place (r ∩ x) xs

@@ -1,0 +1,104 @@
+-- How large the counts and the quality can become: every product of the machine stays far below 2^64.
+-- Assumes nothing.
+use mathlib.Core.Path.{_≡_, refl, sym, _∙_, ap}
+use mathlib.Core.Bool.{Bool, So}
+use mathlib.Core.Logic.{_↔_}
+use Prim.Native.Nat.{ℕ, zero, suc, _+_, _*_, _<_, _≤_, _^_}
+use native.Mathlib.Nat.{le-trans, mul-le-mul, le-refl, le-of-eq}
+use native.Mathlib.Decide.{le-ind}
+use native.Mathlib.Omega.{arith}
+use lib.Dec.{leb}
+use lib.Count.{ones, ones-le}
+use Rattle.sets.specs.Truth.{_and_, total}
+use Rattle.sets.specs.Sets.{has}
+use Rattle.sets.proofs.Truth.{not-So, and-iff, leb-iff}
+use Rattle.sets.proofs.Items.{below-of-items}
+use Rattle.sets.proofs.Counts.{total-≤, total-bound}
+use Rattle.model.specs.Hierarchy.{Roles, candidateCount, immediateJuniors, directPermissions, directMembers, building}
+use Rattle.model.specs.Quality.{Weights, Counts, weightsAllowed, counted, counts, weigh, quality}
+use Rattle.model.proofs.Reading.{Ordered, immediate-iff, junior-iff}
+use Rattle.model.proofs.Building.{senior-lower}
+use Rattle.model.proofs.Record.{immediateJuniors-lt, directPermissions-lt, directMembers-lt}
+
+pub weightsAllowed-iff : (w : Weights)
+    → So (weightsAllowed w) ↔ ((w .perRole ≤ 1000) × (w .perMember ≤ 1000) × (w .perPermission ≤ 1000) × (w .perLink ≤ 1000))
+unfolding weightsAllowed
+weightsAllowed-iff w =
+    let t1 = leb (w .perRole) 1000 in
+    let t2 = leb (w .perMember) 1000 in
+    let t3 = leb (w .perPermission) 1000 in
+    let t4 = leb (w .perLink) 1000 in (
+      λ h.
+          let a = and-iff (t1 and t2 and t3) t4 .0 h in
+          let b = and-iff (t1 and t2) t3 .0 (a .0) in
+          let d = and-iff t1 t2 .0 (b .0) in
+          (leb-iff (w .perRole) 1000 .0 (d .0), leb-iff (w .perMember) 1000 .0 (d .1), leb-iff (w .perPermission) 1000 .0 (b .1), leb-iff (w .perLink) 1000 .0 (a .1)),
+      λ f.
+          and-iff (t1 and t2 and t3) t4 .1 (
+            and-iff (t1 and t2) t3 .1
+                (and-iff t1 t2 .1 (leb-iff (w .perRole) 1000 .1 (f .0), leb-iff (w .perMember) 1000 .1 (f .1)), leb-iff (w .perPermission) 1000 .1 (f .2)),
+            leb-iff (w .perLink) 1000 .1 (f .3),
+          ),
+    )
+
+-- "The counts are at most 128, 16,384, 32,768 and 8,128."
+pub record Small (q : Counts) : Type 0 where
+  pub roles : q .roles ≤ 128
+  pub members : q .members ≤ 16384
+  pub permissions : q .permissions ≤ 32768
+  pub links : q .links ≤ 8128
+
+total-more : (c d : ℕ) (f : ℕ → ℕ) → c ≤ d → total c f ≤ total d f
+unfolding total
+total-more c d f l = le-ind (λ (d : ℕ). total c f ≤ total d f) (le-refl (total c f)) (λ m k h. omega arith) d l
+
+links-most : total 128 (λ k. k) ≡ 8128
+unfolding total
+links-most = refl
+
+module _ (ρ : Roles) (R : ℕ) (o : Ordered ρ R) (fewUsers : ρ .users ≤ 128) (fewPermissions : ρ .permissions ≤ 256) (fewRoles : candidateCount ρ ≤ 128) where
+  members-few : (k : ℕ) → ones (directMembers ρ R k) ≤ 128
+  members-few k = le-trans (ones-le (ρ .users) (directMembers ρ R k) (directMembers-lt ρ R k)) fewUsers
+
+  permissions-few : (k : ℕ) → ones (directPermissions ρ R k) ≤ 256
+  permissions-few k = le-trans (ones-le (ρ .permissions) (directPermissions ρ R k) (directPermissions-lt ρ R k)) fewPermissions
+
+  -- an immediate junior has a lower number
+  juniors-few : (k : ℕ) → ones (immediateJuniors ρ R k) ≤ k
+  juniors-few k =
+      ones-le k (immediateJuniors ρ R k)
+      (below-of-items k (immediateJuniors ρ R k)
+      (λ j l.
+      not-So (has (immediateJuniors ρ R k) j)
+      (λ t.
+      let x = senior-lower ρ R o k j (immediate-iff ρ R k j .0 (junior-iff ρ R k j .0 t .1) .0) in
+      let z : ⊥ = omega arith in
+      z)))
+
+  pub counts-small : Small (counts ρ R)
+  unfolding counts counted building
+  counts-small =
+      let c = candidateCount ρ in
+      record {
+        roles = le-trans (ones-le c R (o .below)) fewRoles;
+        members = le-trans (total-bound c 128 (λ k. ones (directMembers ρ R k)) (λ k l. members-few k)) (mul-le-mul fewRoles (le-refl 128));
+        permissions = le-trans (total-bound c 256 (λ k. ones (directPermissions ρ R k)) (λ k l. permissions-few k)) (mul-le-mul fewRoles (le-refl 256));
+        links = le-trans (total-≤ c (λ k. ones (immediateJuniors ρ R k)) (λ k. k) (λ k l. juniors-few k)) (le-trans (total-more c 128 (λ k. k) fewRoles) (le-of-eq links-most));
+      }
+
+-- no sum or product of the weights and counts comes near 2^64
+pub weigh-small : (w : Weights) (q : Counts) → So (weightsAllowed w) → Small q → weigh w q ≤ 57408000
+unfolding weigh
+weigh-small w q a s =
+    let x = weightsAllowed-iff w .0 a in
+    let p1 = mul-le-mul (x .0) (s .roles) in
+    let p2 = mul-le-mul (x .1) (s .members) in
+    let p3 = mul-le-mul (x .2) (s .permissions) in
+    let p4 = mul-le-mul (x .3) (s .links) in
+    omega arith
+
+-- b·q' and a·q, for b at most 1,000 and a at most 2b
+pub trial-small : (a b q q' : ℕ) → b ≤ 1000 → a ≤ 2 * b → q ≤ 57408000 → q' ≤ 57408000 → (b * q' < 2 ^ 37) × (a * q < 2 ^ 37)
+trial-small a b q q' hb ha hq hq' =
+    let l : a ≤ 2000 = omega arith in
+    (let p = mul-le-mul hb hq' in omega arith, let p = mul-le-mul l hq in omega arith)

@@ -1,0 +1,200 @@
+-- Each definition of the building and of coverage, as the statement that it computes.
+-- Assumes nothing.
+use mathlib.Core.Path.{_≡_, refl, sym, _∙_, ap}
+use mathlib.Core.Bool.{Bool, true, false, So}
+use mathlib.Core.Logic.{_↔_, _≢_, _⊎_, ⊎-elim}
+use Prim.Native.Nat.{ℕ, _<_, _^_}
+use native.Mathlib.Omega.{arith}
+use lib.ListN.{length, getD}
+use Rattle.sets.specs.Truth.{_and_, _implies_, any, all, none}
+use Rattle.sets.specs.Sets.{has, _∖_, single, subset, properSubset, collect}
+use Rattle.sets.proofs.Truth.{and-iff, implies-iff, any-iff, all-iff, none-iff, none-of, none-is}
+use Rattle.sets.proofs.Items.{item-below}
+use Rattle.sets.proofs.Order.{collect-iff, collect-lt, single-iff, ∖-iff, proper-subset, subset-trans}
+use Rattle.model.specs.Hierarchy.{Roles, candidateCount, permissionSet, authorisedUsers, senior, immediatelySenior, immediateJuniors, directPermissions, directMembers}
+use Rattle.model.specs.Coverage.{grant, covers, covered, allCovered, spared, strikable, strikables}
+
+-- what the theory of the hierarchy rests on: a proper subset has a lower number, and the standing roles are candidates
+pub record Ordered (ρ : Roles) (R : ℕ) : Type 0 where
+  pub lower : (j k : ℕ) → j < candidateCount ρ → k < candidateCount ρ → So (properSubset (permissionSet ρ j) (permissionSet ρ k)) → j < k
+  pub below : R < 2 ^ candidateCount ρ
+
+module _ (ρ : Roles) where
+  -- A(k)
+  pub user-iff : (k u : ℕ) → So (has (authorisedUsers ρ k) u) ↔ ((u < ρ .users) × So (subset (permissionSet ρ k) (getD (ρ .possible) u 0)))
+  unfolding authorisedUsers
+  user-iff k u = collect-iff (ρ .users) (λ u. subset (permissionSet ρ k) (getD (ρ .possible) u 0)) u
+
+  pub covers-iff : (k u p : ℕ) → So (covers ρ k u p) ↔ (So (has (authorisedUsers ρ k) u) × So (has (permissionSet ρ k) p))
+  unfolding covers
+  covers-iff k u p = and-iff (has (authorisedUsers ρ k) u) (has (permissionSet ρ k) p)
+
+  pub covered-iff : (s u p : ℕ) → So (covered ρ s u p) ↔ ((k : ℕ) × (k < candidateCount ρ) × So (has s k) × So (covers ρ k u p))
+  unfolding covered
+  covered-iff s u p = (
+    λ h.
+        let w = any-iff (candidateCount ρ) (λ k. has s k and covers ρ k u p) .0 h in
+        let b = and-iff (has s (w .0)) (covers ρ (w .0) u p) .0 (w .2) in
+        (w .0, w .1, b .0, b .1),
+    λ w. any-iff (candidateCount ρ) (λ k. has s k and covers ρ k u p) .1 (w .0, w .1, and-iff (has s (w .0)) (covers ρ (w .0) u p) .1 (w .2, w .3)),
+  )
+
+  -- "each crew grant is covered"
+  pub allCovered-iff : (R : ℕ)
+      → So (allCovered ρ R) ↔ ((u p : ℕ) → u < ρ .users → p < ρ .permissions → So (grant ρ u p) → So (covered ρ R u p))
+  unfolding allCovered
+  allCovered-iff R = (
+    λ h u p lu lp g.
+        implies-iff (grant ρ u p) (covered ρ R u p) .0
+        (all-iff (ρ .permissions) (λ p. grant ρ u p implies covered ρ R u p) .0
+        (all-iff (ρ .users) (λ u. all (ρ .permissions) (λ p. grant ρ u p implies covered ρ R u p)) .0 h u lu) p lp) g,
+    λ f.
+        all-iff (ρ .users) (λ u. all (ρ .permissions) (λ p. grant ρ u p implies covered ρ R u p)) .1
+        (λ u lu.
+        all-iff (ρ .permissions) (λ p. grant ρ u p implies covered ρ R u p) .1
+        (λ p lp. implies-iff (grant ρ u p) (covered ρ R u p) .1 (λ g. f u p lu lp g))),
+  )
+
+  pub spared-iff : (R s : ℕ)
+      → So (spared ρ R s) ↔ ((u p : ℕ) → u < ρ .users → p < ρ .permissions → So (grant ρ u p) → So (covered ρ s u p) → So (covered ρ (R ∖ s) u p))
+  unfolding spared
+  spared-iff R s = (
+    λ h u p lu lp g cs.
+        implies-iff (grant ρ u p and covered ρ s u p) (covered ρ (R ∖ s) u p) .0
+        (all-iff (ρ .permissions) (λ p. grant ρ u p and covered ρ s u p implies covered ρ (R ∖ s) u p) .0
+        (all-iff (ρ .users) (λ u. all (ρ .permissions) (λ p. grant ρ u p and covered ρ s u p implies covered ρ (R ∖ s) u p)) .0 h u lu) p lp)
+        (and-iff (grant ρ u p) (covered ρ s u p) .1 (g, cs)),
+    λ f.
+        all-iff (ρ .users) (λ u. all (ρ .permissions) (λ p. grant ρ u p and covered ρ s u p implies covered ρ (R ∖ s) u p)) .1
+        (λ u lu.
+        all-iff (ρ .permissions) (λ p. grant ρ u p and covered ρ s u p implies covered ρ (R ∖ s) u p) .1
+        (λ p lp.
+        implies-iff (grant ρ u p and covered ρ s u p) (covered ρ (R ∖ s) u p) .1
+        (λ b. let d = and-iff (grant ρ u p) (covered ρ s u p) .0 b in f u p lu lp (d .0) (d .1)))),
+  )
+
+  -- strikable, in the paper's own words: "k stands and each grant covered by k is covered by another standing role"
+  pub strikable-iff : (R k : ℕ) → k < candidateCount ρ
+      → So (strikable ρ R k)
+      ↔ (So (has R k)
+      × ((u p : ℕ) → u < ρ .users → p < ρ .permissions → So (grant ρ u p) → So (covers ρ k u p)
+      → (j : ℕ) × (j < candidateCount ρ) × So (has R j) × (j ≢ k) × So (covers ρ j u p)))
+  unfolding strikable
+  strikable-iff R k lk = (
+    λ h.
+        let b = and-iff (has R k) (spared ρ R (single k)) .0 h in (
+          b .0,
+          λ u p lu lp g cv.
+              let w = covered-iff (R ∖ single k) u p .0 (spared-iff R (single k) .0 (b .1) u p lu lp g (covered-iff (single k) u p .1 (k, lk, single-iff k k .1 refl, cv))) in
+              let d = ∖-iff R (single k) (w .0) .0 (w .2) in
+              (w .0, w .1, d .0, λ e. d .1 (single-iff k (w .0) .1 (sym e)), w .3),
+        ),
+    λ f.
+        and-iff (has R k) (spared ρ R (single k)) .1 (
+          f .0,
+          spared-iff R (single k) .1
+              (λ u p lu lp g cs.
+              let v = covered-iff (single k) u p .0 cs in
+              let e : k ≡ v .0 = single-iff k (v .0) .0 (v .2) in
+              let w = f .1 u p lu lp g (rw e (v .3)) in
+              covered-iff (R ∖ single k) u p .1 (w .0, w .1, ∖-iff R (single k) (w .0) .1 (w .2, λ s. w .3 (sym (single-iff k (w .0) .0 s))), w .4)),
+        ),
+  )
+
+  pub strikable-stands : (R k : ℕ) → So (strikable ρ R k) → So (has R k)
+  unfolding strikable
+  strikable-stands R k h = and-iff (has R k) (spared ρ R (single k)) .0 h .0
+
+  pub strikables-iff : (R k : ℕ) → So (has (strikables ρ R) k) ↔ ((k < candidateCount ρ) × So (strikable ρ R k))
+  unfolding strikables
+  strikables-iff R k = collect-iff (candidateCount ρ) (λ k. strikable ρ R k) k
+
+  -- senior and immediately senior
+  module _ (R : ℕ) where
+    pub senior-iff : (k j : ℕ) → So (senior ρ R k j) ↔ (So (has R k) × So (has R j) × So (properSubset (permissionSet ρ j) (permissionSet ρ k)))
+    unfolding senior
+    senior-iff k j = (
+      λ h.
+          let a = and-iff (has R k and has R j) (properSubset (permissionSet ρ j) (permissionSet ρ k)) .0 h in
+          let b = and-iff (has R k) (has R j) .0 (a .0) in
+          (b .0, b .1, a .1),
+      λ k'. and-iff (has R k and has R j) (properSubset (permissionSet ρ j) (permissionSet ρ k)) .1 (and-iff (has R k) (has R j) .1 (k' .0, k' .1), k' .2),
+    )
+
+    pub immediate-iff : (k j : ℕ)
+        → So (immediatelySenior ρ R k j)
+        ↔ (So (senior ρ R k j) × ((i : ℕ) → i < candidateCount ρ → So (senior ρ R k i) → So (senior ρ R i j) → ⊥))
+    unfolding immediatelySenior
+    immediate-iff k j = (
+      λ h.
+          let a = and-iff (senior ρ R k j) (none (candidateCount ρ) (λ i. senior ρ R k i and senior ρ R i j)) .0 h in
+          (a .0, λ i l p q. none-is (candidateCount ρ) (λ i. senior ρ R k i and senior ρ R i j) (a .1) i l (and-iff (senior ρ R k i) (senior ρ R i j) .1 (p, q))),
+      λ f.
+          and-iff (senior ρ R k j) (none (candidateCount ρ) (λ i. senior ρ R k i and senior ρ R i j)) .1 (
+            f .0,
+            none-of (candidateCount ρ) (λ i. senior ρ R k i and senior ρ R i j)
+                (λ i l b. let d = and-iff (senior ρ R k i) (senior ρ R i j) .0 b in f .1 i l (d .0) (d .1)),
+          ),
+    )
+
+    pub junior-iff : (k j : ℕ) → So (has (immediateJuniors ρ R k) j) ↔ ((j < candidateCount ρ) × So (immediatelySenior ρ R k j))
+    unfolding immediateJuniors
+    junior-iff k j = collect-iff (candidateCount ρ) (λ j. immediatelySenior ρ R k j) j
+
+    -- "S(k) less the sets of all its juniors"
+    pub permission-iff : (k p : ℕ)
+        → So (has (directPermissions ρ R k) p)
+        ↔ ((p < ρ .permissions) × So (has R k) × So (has (permissionSet ρ k) p)
+        × ((j : ℕ) → j < candidateCount ρ → So (senior ρ R k j) → So (has (permissionSet ρ j) p) → ⊥))
+    unfolding directPermissions
+    permission-iff k p =
+        let test : ℕ → Bool = λ p. has R k and has (permissionSet ρ k) p and none (candidateCount ρ) (λ j. senior ρ R k j and has (permissionSet ρ j) p) in (
+          λ h.
+              let a = collect-iff (ρ .permissions) test p .0 h in
+              let b = and-iff (has R k and has (permissionSet ρ k) p) (none (candidateCount ρ) (λ j. senior ρ R k j and has (permissionSet ρ j) p)) .0 (a .1) in
+              let d = and-iff (has R k) (has (permissionSet ρ k) p) .0 (b .0) in (
+                a .0,
+                d .0,
+                d .1,
+                λ j l s t.
+                    none-is (candidateCount ρ) (λ j. senior ρ R k j and has (permissionSet ρ j) p) (b .1) j l (and-iff (senior ρ R k j) (has (permissionSet ρ j) p) .1 (s, t)),
+              ),
+          λ f.
+              collect-iff (ρ .permissions) test p .1 (
+                f .0,
+                and-iff (has R k and has (permissionSet ρ k) p) (none (candidateCount ρ) (λ j. senior ρ R k j and has (permissionSet ρ j) p)) .1 (
+                  and-iff (has R k) (has (permissionSet ρ k) p) .1 (f .1, f .2),
+                  none-of (candidateCount ρ) (λ j. senior ρ R k j and has (permissionSet ρ j) p)
+                      (λ j l b. let d = and-iff (senior ρ R k j) (has (permissionSet ρ j) p) .0 b in f .3 j l (d .0) (d .1)),
+                ),
+              ),
+        )
+
+    -- "A(k) less A of all its seniors"
+    pub member-iff : (k u : ℕ)
+        → So (has (directMembers ρ R k) u)
+        ↔ ((u < ρ .users) × So (has R k) × So (has (authorisedUsers ρ k) u)
+        × ((i : ℕ) → i < candidateCount ρ → So (senior ρ R i k) → So (has (authorisedUsers ρ i) u) → ⊥))
+    unfolding directMembers
+    member-iff k u =
+        let test : ℕ → Bool = λ u. has R k and has (authorisedUsers ρ k) u and none (candidateCount ρ) (λ i. senior ρ R i k and has (authorisedUsers ρ i) u) in (
+          λ h.
+              let a = collect-iff (ρ .users) test u .0 h in
+              let b = and-iff (has R k and has (authorisedUsers ρ k) u) (none (candidateCount ρ) (λ i. senior ρ R i k and has (authorisedUsers ρ i) u)) .0 (a .1) in
+              let d = and-iff (has R k) (has (authorisedUsers ρ k) u) .0 (b .0) in (
+                a .0,
+                d .0,
+                d .1,
+                λ i l s t.
+                    none-is (candidateCount ρ) (λ i. senior ρ R i k and has (authorisedUsers ρ i) u) (b .1) i l (and-iff (senior ρ R i k) (has (authorisedUsers ρ i) u) .1 (s, t)),
+              ),
+          λ f.
+              collect-iff (ρ .users) test u .1 (
+                f .0,
+                and-iff (has R k and has (authorisedUsers ρ k) u) (none (candidateCount ρ) (λ i. senior ρ R i k and has (authorisedUsers ρ i) u)) .1 (
+                  and-iff (has R k) (has (authorisedUsers ρ k) u) .1 (f .1, f .2),
+                  none-of (candidateCount ρ) (λ i. senior ρ R i k and has (authorisedUsers ρ i) u)
+                      (λ i l b. let d = and-iff (senior ρ R i k) (has (authorisedUsers ρ i) u) .0 b in f .3 i l (d .0) (d .1)),
+                ),
+              ),
+        )

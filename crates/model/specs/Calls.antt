@@ -1,0 +1,82 @@
+-- What each outside call answers, and what it leaves in the lent record. A refusal gives its number and zeros, and alters nothing.
+-- Assumes nothing.
+use mathlib.Core.Bool.{Bool}
+use mathlib.Core.List.{List}
+use Prim.Native.Nat.{ℕ, _*_}
+use lib.Dec.{eqb, leb, ltb}
+use lib.ListN.{length}
+use Rattle.sets.specs.Truth.{_and_, isnt, if_then_else_, bit}
+use Rattle.model.specs.Lists.{rowsAt}
+use Rattle.model.specs.Candidates.{candidates}
+use Rattle.model.specs.Hierarchy.{candidateCount}
+use Rattle.model.specs.Chains.{may}
+use Rattle.model.specs.Quality.{Weights, weightsAllowed, counted, weigh}
+use Rattle.model.specs.State.{State, rolesOf, fresh, withinLimits, rowsWithin}
+use Rattle.model.specs.Record.{recordLength, built, stateOf, rowsOf, sound}
+use Rattle.model.specs.Machine.{Call, Answer, answer, step}
+
+-- 1 or 5 where the lent record is not 2,056 words or not sound, else 0
+unfoldable pub unfit : List ℕ → ℕ
+unfit ws = if isnt (eqb (length ws) recordLength) then 1 else if isnt (sound ws) then 5 else 0
+
+-- ---- mining
+
+-- the first of 1, 2, 3 and 4 that applies, or 0
+unfoldable pub miningRefusal : ℕ → ℕ → List ℕ → List ℕ → ℕ
+miningRefusal n m crew ws =
+    if isnt (eqb (length ws) recordLength) then 1
+    else if isnt (withinLimits n m) then 2
+    else if isnt (eqb (length crew) (4 * n) and rowsWithin m (rowsAt n crew 0)) then 3
+    else if isnt (leb (length (candidates (rowsAt n crew 0))) 128) then 4
+    else 0
+
+pub record Mined : Type 0 where
+  pub code : ℕ
+  pub candidates : ℕ
+  pub words : List ℕ
+
+-- "Mining writes the whole record, with all candidates standing; its answer is c."
+unfoldable pub mine : ℕ → ℕ → List ℕ → List ℕ → Mined
+mine n m crew ws =
+    let rows = rowsAt n crew 0 in
+    if eqb (miningRefusal n m crew ws) 0 then record { code = 0; candidates = length (candidates rows); words = built (fresh n m rows) }
+    else record { code = miningRefusal n m crew ws; candidates = 0; words = ws }
+
+-- ---- the editing calls
+
+pub record Edited : Type 0 where
+  pub given : Answer
+  pub words : List ℕ
+
+-- on a sound record a call does what the machine's step does to the state that it holds, and leaves the record built afresh
+unfoldable pub edit : List ℕ → Call → Edited
+edit ws call =
+    let o = step (stateOf ws) call in
+    if isnt (eqb (unfit ws) 0) then record { given = answer (unfit ws) 0 0; words = ws }
+    else record { given = o .given; words = if eqb (o .given .code) 0 then built (o .state) else ws }
+
+-- ---- the calls that read
+
+pub record Told : Type 0 where
+  pub code : ℕ
+  pub value : ℕ
+
+unfoldable pub told : ℕ → ℕ → Told
+told code value = if eqb code 0 then record { code = 0; value = value } else record { code = code; value = 0 }
+
+-- the quality of the record's own rows
+unfoldable pub qualityOf : List ℕ → Weights → Told
+qualityOf ws w =
+    let st = stateOf ws in
+    told (if isnt (eqb (unfit ws) 0) then unfit ws else if isnt (weightsAllowed w) then 9 else 0)
+    (weigh w (counted (candidateCount (rolesOf st)) (rowsOf ws) (st .standing)))
+
+-- may (u, p), following the links in the record
+unfoldable pub mayOf : List ℕ → ℕ → ℕ → Told
+mayOf ws u p =
+    let st = stateOf ws in
+    told
+    (if isnt (eqb (unfit ws) 0) then unfit ws
+    else if isnt (ltb u (st .users) and ltb p (st .permissions)) then 6
+    else 0)
+    (bit (may (candidateCount (rolesOf st)) (rowsOf ws) u p))

@@ -1,0 +1,67 @@
+-- The building of a standing set R: A(k), senior, immediately senior, direct permissions, direct members.
+-- Assumes nothing.
+use mathlib.Core.Bool.{Bool, true, false}
+use mathlib.Core.List.{List}
+use Prim.Native.Nat.{ℕ}
+use lib.ListN.{length, getD}
+use Rattle.sets.specs.Truth.{_and_, none}
+use Rattle.sets.specs.Sets.{has, subset, properSubset, collect}
+
+-- the candidate roles of a crew list, and whom they serve
+pub record Roles : Type 0 where
+  -- n, the number of persons, and m, that of permissions
+  pub users : ℕ
+  pub permissions : ℕ
+  -- the crew row of each person: the grants that roles must cover
+  pub granted : List ℕ
+  -- the row of each person that decides of which roles the person may be a member; today the crew row
+  pub possible : List ℕ
+  -- S(k) of each candidate role k
+  pub sets : List ℕ
+
+-- c, the number of candidates
+unfoldable pub candidateCount : Roles → ℕ
+candidateCount ρ = length (ρ .sets)
+
+-- S(k)
+unfoldable pub permissionSet : Roles → ℕ → ℕ
+permissionSet ρ k = getD (ρ .sets) k 0
+
+-- A(k): "the set of persons whose crew row contains S(k)"
+unfoldable pub authorisedUsers : Roles → ℕ → ℕ
+authorisedUsers ρ k = collect (ρ .users) (λ u. subset (permissionSet ρ k) (getD (ρ .possible) u 0))
+
+-- "Role k is senior to j, both in R, when S(k) properly contains S(j)."
+unfoldable pub senior : Roles → ℕ → ℕ → ℕ → Bool
+senior ρ R k j = has R k and has R j and properSubset (permissionSet ρ j) (permissionSet ρ k)
+
+-- "It is immediately senior when no third role of R lies strictly between."
+unfoldable pub immediatelySenior : Roles → ℕ → ℕ → ℕ → Bool
+immediatelySenior ρ R k j = senior ρ R k j and none (candidateCount ρ) (λ i. senior ρ R k i and senior ρ R i j)
+
+-- ---- a role's row: immediate juniors, direct permissions and direct members; a role outside R has zero rows
+
+unfoldable pub immediateJuniors : Roles → ℕ → ℕ → ℕ
+immediateJuniors ρ R k = collect (candidateCount ρ) (λ j. immediatelySenior ρ R k j)
+
+-- "S(k) less the sets of all its juniors"
+unfoldable pub directPermissions : Roles → ℕ → ℕ → ℕ
+directPermissions ρ R k =
+    collect (ρ .permissions)
+    (λ p. has R k and has (permissionSet ρ k) p and none (candidateCount ρ) (λ j. senior ρ R k j and has (permissionSet ρ j) p))
+
+-- "A(k) less A of all its seniors"
+unfoldable pub directMembers : Roles → ℕ → ℕ → ℕ
+directMembers ρ R k =
+    collect (ρ .users)
+    (λ u. has R k and has (authorisedUsers ρ k) u and none (candidateCount ρ) (λ i. senior ρ R i k and has (authorisedUsers ρ i) u))
+
+-- the rows of all roles, whoever made them: the building of R, or what a record's words hold
+pub record Rows : Type 0 where
+  pub juniors : ℕ → ℕ
+  pub permissions : ℕ → ℕ
+  pub members : ℕ → ℕ
+
+-- "The building of R"
+unfoldable pub building : Roles → ℕ → Rows
+building ρ R = record { juniors = immediateJuniors ρ R; permissions = directPermissions ρ R; members = directMembers ρ R }

@@ -1,0 +1,13 @@
+pub mod Lists
+pub mod Candidates
+pub mod Hierarchy
+pub mod Chains
+pub mod Coverage
+pub mod Quality
+pub mod State
+pub mod Record
+pub mod Altered
+pub mod Machine
+pub mod Calls
+pub mod Claim
+pub mod Indexes

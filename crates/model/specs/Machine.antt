@@ -1,0 +1,231 @@
+-- The plain machine: strike, restore, eliminate, review. It is fed kinds and numbers, never the record.
+-- Assumes nothing.
+use mathlib.Core.Bool.{Bool}
+use mathlib.Core.List.{List, [], _∷_}
+use Prim.Native.Nat.{ℕ, zero, suc, _+_, _*_, min}
+use lib.Dec.{eqb, leb, ltb}
+use lib.Count.{ones}
+use Rattle.sets.specs.Truth.{_and_, _or_, isnt, if_then_else_, any, none}
+use Rattle.sets.specs.Sets.{has, _∩_, _∪_, _∖_, single, collect}
+use Rattle.model.specs.Hierarchy.{Roles, candidateCount}
+use Rattle.model.specs.Coverage.{grant, covers, strikable, strikables}
+use Rattle.model.specs.Quality.{Weights, weightsAllowed, quality}
+use Rattle.model.specs.State.{State, rolesOf, standingNow}
+
+-- ---- redundancy, and the order of a pass
+
+-- the least of b and of f at the indices below n
+unfoldable pub least : ℕ → (ℕ → ℕ) → ℕ → ℕ
+least zero f b = b
+least (suc n) f b = min (f n) (least n f b)
+
+-- the candidates that cover (u, p)
+unfoldable pub coverers : Roles → ℕ → ℕ → ℕ
+coverers ρ u p = collect (candidateCount ρ) (λ k. covers ρ k u p)
+
+-- "Redundancy of k is the least, over the grants that k covers, of the number of strikable standing roles covering that grant":
+-- s is the set of the strikable standing roles, and no such number is above c
+unfoldable pub redundancy : Roles → ℕ → ℕ → ℕ
+redundancy ρ s k =
+    least (ρ .users)
+    (λ u.
+    least (ρ .permissions)
+    (λ p. if grant ρ u p and covers ρ k u p then ones (coverers ρ u p ∩ s) else candidateCount ρ)
+    (candidateCount ρ))
+    (candidateCount ρ)
+
+-- k goes before j: "larger redundancy first, ties by lower number"
+unfoldable pub before : (ℕ → ℕ) → ℕ → ℕ → Bool
+before key k j = ltb (key j) (key k) or eqb (key k) (key j) and ltb k j
+
+-- the lowest index below n that passes f
+unfoldable pub first : ℕ → (ℕ → Bool) → ℕ
+first zero f = 0
+first (suc n) f = if any n f then first n f else n
+
+-- the role of the set s that no other of s goes before
+unfoldable pub foremost : ℕ → (ℕ → ℕ) → ℕ → ℕ
+foremost c key s = first c (λ k. has s k and none c (λ j. has s j and before key j k))
+
+-- ---- eliminate
+
+pub record Tolerance : Type 0 where
+  pub numerator : ℕ
+  pub denominator : ℕ
+
+-- "a tolerance a/b with b from 1 to 1,000 and a from b to 2b"
+unfoldable pub toleranceAllowed : Tolerance → Bool
+toleranceAllowed t =
+    leb 1 (t .denominator) and leb (t .denominator) 1000 and leb (t .denominator) (t .numerator) and leb (t .numerator) (2 * t .denominator)
+
+-- how far an elimination or a review has come
+pub record Run : Type 0 where
+  pub standing : ℕ
+  -- the worklist of an elimination
+  pub worklist : ℕ
+  -- q, the quality that the next trial is compared with
+  pub reference : ℕ
+  -- how many roles were struck, or restored, and how many were taken up
+  pub changed : ℕ
+  pub examined : ℕ
+
+-- taken up and off the worklist; struck besides, which leaves the quality q; and taken up only
+unfoldable pub dropped : ℕ → Run → Run
+dropped k r =
+    record {
+      standing = r .standing;
+      worklist = r .worklist ∖ single k;
+      reference = r .reference;
+      changed = r .changed;
+      examined = suc (r .examined);
+    }
+
+unfoldable pub struck : ℕ → ℕ → Run → Run
+struck k q r =
+    record {
+      standing = r .standing ∖ single k;
+      worklist = r .worklist ∖ single k;
+      reference = q;
+      changed = suc (r .changed);
+      examined = suc (r .examined);
+    }
+
+unfoldable pub kept : Run → Run
+kept r =
+    record {
+      standing = r .standing;
+      worklist = r .worklist;
+      reference = r .reference;
+      changed = r .changed;
+      examined = suc (r .examined);
+    }
+
+-- "not strikable now, it leaves the worklist; else, with q' the quality after striking it, it is struck and leaves when b·q' < a·q, and otherwise stays"
+unfoldable pub takeUp : Roles → Weights → Tolerance → ℕ → Run → Run
+takeUp ρ w t k r =
+    let q' = quality ρ w (r .standing ∖ single k) in
+    if isnt (strikable ρ (r .standing) k) then dropped k r
+    else if ltb (t .denominator * q') (t .numerator * r .reference) then struck k q' r
+    else kept r
+
+-- the roles of `todo`, of which there are `left`, taken up in the order of the key
+unfoldable pub takeUpAll : Roles → Weights → Tolerance → (ℕ → ℕ) → ℕ → ℕ → Run → Run
+takeUpAll ρ w t key zero todo r = r
+takeUpAll ρ w t key (suc left) todo r =
+    let k = foremost (candidateCount ρ) key todo in
+    takeUpAll ρ w t key left (todo ∖ single k) (takeUp ρ w t k r)
+
+-- a pass "orders the worklist from the state at its start"
+unfoldable pub pass : Roles → Weights → Tolerance → Run → Run
+pass ρ w t r =
+    let s = strikables ρ (r .standing) in
+    takeUpAll ρ w t (redundancy ρ s) (ones (r .worklist)) (r .worklist) r
+
+-- "A pass runs while the worklist is nonempty and, after the first, only if the pass before struck something." Each pass but the last
+-- strikes a role, so c + 1 passes are enough.
+unfoldable pub passes : Roles → Weights → Tolerance → ℕ → Run → Run
+passes ρ w t zero r = r
+passes ρ w t (suc fuel) r =
+    let next = pass ρ w t r in
+    let rest = passes ρ w t fuel next in
+    if eqb (r .worklist) 0 then r else if eqb (next .changed) (r .changed) then next else rest
+
+-- "The worklist begins as all strikable roles."
+unfoldable pub begin : Roles → Weights → ℕ → ℕ → Run
+begin ρ w worklist R = record { standing = R; worklist = worklist; reference = quality ρ w R; changed = 0; examined = 0 }
+
+unfoldable pub eliminated : Roles → Weights → Tolerance → ℕ → Run
+eliminated ρ w t R = passes ρ w t (suc (candidateCount ρ)) (begin ρ w (strikables ρ R) R)
+
+-- ---- review
+
+unfoldable pub restored : ℕ → ℕ → Run → Run
+restored k q r =
+    record {
+      standing = r .standing ∪ single k;
+      worklist = r .worklist;
+      reference = q;
+      changed = suc (r .changed);
+      examined = suc (r .examined);
+    }
+
+-- an absent candidate is taken up, and restored where its "return makes q strictly smaller"
+unfoldable pub tryRestore : Roles → Weights → ℕ → Run → Run
+tryRestore ρ w k r =
+    let q' = quality ρ w (r .standing ∪ single k) in
+    if has (r .standing) k then r else if ltb q' (r .reference) then restored k q' r else kept r
+
+-- "A pass takes up the absent candidates by growing number": those below k
+unfoldable pub reviewTo : Roles → Weights → ℕ → Run → Run
+reviewTo ρ w zero r = r
+reviewTo ρ w (suc k) r = tryRestore ρ w k (reviewTo ρ w k r)
+
+-- "passes repeat until one restores nothing": each before the last restores a role, so c + 1 passes are enough
+unfoldable pub reviewPasses : Roles → Weights → ℕ → Run → Run
+reviewPasses ρ w zero r = r
+reviewPasses ρ w (suc fuel) r =
+    let next = reviewTo ρ w (candidateCount ρ) r in
+    let rest = reviewPasses ρ w fuel next in
+    if eqb (next .changed) (r .changed) then next else rest
+
+unfoldable pub reviewed : Roles → Weights → ℕ → Run
+reviewed ρ w R = reviewPasses ρ w (suc (candidateCount ρ)) (begin ρ w 0 R)
+
+-- ---- calls and answers
+
+pub data Call : Type 0 where
+  strike : ℕ → Call
+  restore : ℕ → Call
+  eliminate : Weights → Tolerance → Call
+  review : Weights → Call
+
+-- a refusal's number, or 0, and the numbers beside it: how many roles a step struck or restored, and how many it took up
+pub record Answer : Type 0 where
+  pub code : ℕ
+  pub changed : ℕ
+  pub examined : ℕ
+
+unfoldable pub answer : ℕ → ℕ → ℕ → Answer
+answer code changed examined = record { code = code; changed = changed; examined = examined }
+
+-- the first of 6, 7, 8 and 9 that applies, or 0
+unfoldable pub refusal : State → Call → ℕ
+refusal st (strike k) =
+    if isnt (ltb k (candidateCount (rolesOf st))) then 6
+    else if isnt (has (st .standing) k) then 7
+    else if isnt (strikable (rolesOf st) (st .standing) k) then 8
+    else 0
+refusal st (restore k) =
+    if isnt (ltb k (candidateCount (rolesOf st))) then 6 else if has (st .standing) k then 7 else 0
+refusal st (eliminate w t) = if isnt (weightsAllowed w and toleranceAllowed t) then 9 else 0
+refusal st (review w) = if isnt (weightsAllowed w) then 9 else 0
+
+-- the standing set and the numbers that an accepted step leaves
+unfoldable pub accepted : State → Call → Run
+accepted st (strike k) =
+    record { standing = st .standing ∖ single k; worklist = 0; reference = 0; changed = 0; examined = 0 }
+accepted st (restore k) =
+    record { standing = st .standing ∪ single k; worklist = 0; reference = 0; changed = 0; examined = 0 }
+accepted st (eliminate w t) = eliminated (rolesOf st) w t (st .standing)
+accepted st (review w) = reviewed (rolesOf st) w (st .standing)
+
+pub record Outcome : Type 0 where
+  pub given : Answer
+  pub state : State
+
+-- "it keeps its state and answers the first such number and zeros. Otherwise it answers 0, with the numbers that the step names."
+unfoldable pub step : State → Call → Outcome
+step st call =
+    let r = accepted st call in
+    if eqb (refusal st call) 0 then record { given = answer 0 (r .changed) (r .examined); state = standingNow st (r .standing) }
+    else record { given = answer (refusal st call) 0 0; state = st }
+
+-- ---- a list of calls
+
+unfoldable pub stateAfter : State → List Call → State
+stateAfter st [] = st
+stateAfter st (call ∷ calls) = stateAfter (step st call .state) calls
+
+unfoldable pub answersTo : State → List Call → List Answer
+answersTo st [] = []
+answersTo st (call ∷ calls) = step st call .given ∷ answersTo (step st call .state) calls

@@ -1,0 +1,43 @@
+-- Quality: "q = w1·(roles) + w2·(direct members) + w3·(direct permissions) + w4·(links), counted over the building".
+-- Assumes nothing.
+use mathlib.Core.Bool.{Bool}
+use Prim.Native.Nat.{ℕ, _+_, _*_}
+use lib.Dec.{leb}
+use lib.Count.{ones}
+use Rattle.sets.specs.Truth.{_and_, total}
+use Rattle.model.specs.Hierarchy.{Roles, Rows, candidateCount, building}
+
+pub record Weights : Type 0 where
+  pub perRole : ℕ
+  pub perMember : ℕ
+  pub perPermission : ℕ
+  pub perLink : ℕ
+
+-- "weights w1..w4, each 0 to 1,000"
+unfoldable pub weightsAllowed : Weights → Bool
+weightsAllowed w = leb (w .perRole) 1000 and leb (w .perMember) 1000 and leb (w .perPermission) 1000 and leb (w .perLink) 1000
+
+pub record Counts : Type 0 where
+  pub roles : ℕ
+  pub members : ℕ
+  pub permissions : ℕ
+  pub links : ℕ
+
+-- the four counts over the rows of c roles, of which those of R stand
+unfoldable pub counted : ℕ → Rows → ℕ → Counts
+counted c b R =
+    record {
+      roles = ones R;
+      members = total c (λ k. ones (b .members k));
+      permissions = total c (λ k. ones (b .permissions k));
+      links = total c (λ k. ones (b .juniors k));
+    }
+
+unfoldable pub counts : Roles → ℕ → Counts
+counts ρ R = counted (candidateCount ρ) (building ρ R) R
+
+unfoldable pub weigh : Weights → Counts → ℕ
+weigh w q = w .perRole * q .roles + w .perMember * q .members + w .perPermission * q .permissions + w .perLink * q .links
+
+unfoldable pub quality : Roles → Weights → ℕ → ℕ
+quality ρ w R = weigh w (counts ρ R)

@@ -1,0 +1,137 @@
+-- Coverage, user by user, and the rows' limit.
+-- Assumes nothing.
+use mathlib.Core.Path.{_≡_, refl, sym, _∙_, ap, ap₂, subst}
+use mathlib.Core.Bool.{Bool, true, false, So}
+use mathlib.Core.Logic.{_↔_, _≢_, _⊎_, ⊎-elim}
+use mathlib.Core.List.{List}
+use Prim.Native.Nat.{ℕ, _+_, _*_, _^_, _≤_, _<_}
+use native.Mathlib.Nat.{lt-of-lt-of-le}
+use native.Mathlib.Omega.{arith}
+use lib.Dec.{eqb, ltb}
+use lib.ListN.{length, getD}
+use Rattle.sets.specs.Truth.{_and_, _implies_, all}
+use Rattle.sets.specs.Sets.{has, _∩_, subset, collect}
+use Rattle.sets.proofs.Truth.{same-test, So-not, all-same, and-iff, implies-iff, all-iff, eqb-iff, ltb-iff, find, either}
+use Rattle.sets.proofs.Items.{has-zero, item-below, empty-of, below-of-items}
+use Rattle.sets.proofs.Truth.{not-So}
+use Rattle.sets.proofs.Order.{∩-iff, ∩-lt, subset-iff, collect-iff}
+use Rattle.model.specs.Lists.{setAt, rowsAt}
+use Rattle.model.specs.Hierarchy.{candidateCount, permissionSet}
+use Rattle.model.specs.Coverage.{grant, covered, allCovered}
+use Rattle.model.specs.Indexes.{lower, maximal, rolesOfUser}
+use Rattle.model.specs.State.{State, rolesOf, rowsWithin}
+use Rattle.model.proofs.Lists.{length-rowsAt, getD-rowsAt}
+use Rattle.model.proofs.Reading.{covered-iff, covers-iff}
+use Rattle.model.proofs.Shortcuts.{maximal-iff, rolesOfUser-iff, maximal-above}
+use Rattle.hierarchy.specs.Tables.{lessAll}
+use Rattle.hierarchy.proofs.Sieving.{lessAll-iff}
+use Rattle.building.specs.Tables.{Source, Indexed}
+use Rattle.building.proofs.Sources.{numbered, narrow, source-set, source-count}
+use Rattle.records.specs.Records.{userRoles, userCovered}
+
+-- ---- rows
+
+-- within the first m items is below 2 ^ m
+pub within-below : (x m : ℕ) → m ≤ 256 → subset x (collect 256 (λ i. ltb i m)) ≡ ltb x (2 ^ m)
+within-below x m l =
+    same-test (subset x (collect 256 (λ i. ltb i m))) (ltb x (2 ^ m))
+    (λ h.
+    ltb-iff x (2 ^ m) .1
+    (below-of-items m x
+    (λ i b.
+    not-So (has x i)
+    (λ t.
+    let a = ltb-iff i m .0 (collect-iff 256 (λ i. ltb i m) i .0 (subset-iff x (collect 256 (λ i. ltb i m)) .0 h i t) .1) in
+    let z : ⊥ = omega arith in z))))
+    (λ h.
+    subset-iff x (collect 256 (λ i. ltb i m)) .1
+    (λ i t. let b = item-below m x i (ltb-iff x (2 ^ m) .0 h) t in collect-iff 256 (λ i. ltb i m) i .1 (omega arith, ltb-iff i m .1 b)))
+
+pub rows-test : (crew : List ℕ) (at n m : ℕ) → rowsWithin m (rowsAt n crew at) ≡ all n (λ u. ltb (setAt 4 crew (at + 4 * u)) (2 ^ m))
+unfolding rowsWithin
+rows-test crew at n m =
+    rw (length-rowsAt n crew at)
+    (all-same n (λ u. ltb (getD (rowsAt n crew at) u 0) (2 ^ m)) (λ u. ltb (setAt 4 crew (at + 4 * u)) (2 ^ m))
+    (λ u l. ap (λ (x : ℕ). ltb x (2 ^ m)) (getD-rowsAt n crew at u l)))
+
+-- ---- coverage
+
+pub users-test : (st : State) → allCovered (rolesOf st) (st .standing) ≡ all (st .users) (userCovered st)
+unfolding allCovered userCovered rolesOf
+users-test st = refl
+
+module _ (st : State) (crew : List ℕ) (at n : ℕ) (table : List ℕ) (c : ℕ) (src : Source st crew at n table c) where
+  user-roles : (u k : ℕ) → So (has (userRoles st u) k) ↔ (So (has (rolesOfUser (rolesOf st) u) k) × So (has (st .standing) k))
+  unfolding userRoles
+  user-roles u k = ∩-iff (rolesOfUser (rolesOf st) u) (st .standing) k
+
+  pub user-roles-lt : (u : ℕ) → userRoles st u < 2 ^ candidateCount (rolesOf st)
+  unfolding userRoles
+  user-roles-lt u = ∩-lt (candidateCount (rolesOf st)) (rolesOfUser (rolesOf st) u) (st .standing) (src .limits .standing-below)
+
+  -- nothing of the row is left without the maximal roles' sets exactly when each grant is covered
+  pub user-test : (u x js : ℕ) → u < n → x ≡ getD (st .rows) u 0 → js ≡ maximal (rolesOf st) (userRoles st u)
+      → eqb (lessAll 4 table x js) 0 ≡ userCovered st u
+  unfolding userCovered grant rolesOf
+  user-test u x js lu own ej =
+      let ρ = rolesOf st in
+      let s = userRoles st u in
+      let left = lessAll 4 table x js in
+      let test : ℕ → Bool = λ p. grant ρ u p implies covered ρ (st .standing) u p in
+      let small : (j : ℕ) → So (has (maximal ρ s) j) → j < c = λ j t. rw source-count' at (maximal-iff ρ s j .0 t .0) in
+      same-test (eqb left 0) (all (st .permissions) test)
+      (λ h.
+      let none : left ≡ 0 = eqb-iff left 0 .0 h in
+      all-iff (st .permissions) test .1
+      (λ p lp.
+      implies-iff (grant ρ u p) (covered ρ (st .standing) u p) .1
+      (λ g.
+      ⊎-elim
+      (λ (w : (j : ℕ) × (j < 128) × So (has js j and has (setAt 4 table (4 * j)) p)).
+      let a = and-iff (has js (w .0)) (has (setAt 4 table (4 * w .0)) p) .0 (w .2) in
+      let jm : So (has (maximal ρ s) (w .0)) = rw ej at (a .0) in
+      let r = user-roles u (w .0) .0 (maximal-iff ρ s (w .0) .0 jm .1) in
+      let k = rolesOfUser-iff ρ u (w .0) .0 (r .0) in
+      covered-iff ρ (st .standing) u p .1
+      (w .0, k .0, r .1, covers-iff ρ (w .0) u p .1 (k .1, rw (source-set st crew at n table c src (w .0) (small (w .0) jm)) at (a .1))))
+      (λ f.
+      absurd
+      (So-not (has-zero p)
+      (rw none at
+      (lessAll-iff 4 table x js p .1
+      (lt-of-lt-of-le lp (src .limits .permissions-most), rw own g, λ j l y z. f j l (and-iff (has js j) (has (setAt 4 table (4 * j)) p) .1 (y, z)))))))
+      (find 128 (λ j. has js j and has (setAt 4 table (4 * j)) p)))))
+      (λ h.
+      eqb-iff left 0 .1
+      (empty-of left
+      (λ p t.
+      let a = lessAll-iff 4 table x js p .0 t in
+      let g : So (has (getD (st .rows) u 0) p) = rw own at (a .1) in
+      let lp = item-below (st .permissions) (getD (st .rows) u 0) p (src .limits .rows-below u (rw (src .users) lu)) g in
+      let w = covered-iff ρ (st .standing) u p .0 (implies-iff (grant ρ u p) (covered ρ (st .standing) u p) .0 (all-iff (st .permissions) test .0 h p lp) g) in
+      let cv = covers-iff ρ (w .0) u p .0 (w .3) in
+      let k = user-roles u (w .0) .1 (rolesOfUser-iff ρ u (w .0) .1 (w .1, cv .0), w .2) in
+      let up = maximal-above ρ s (user-roles-lt u) (numbered st (src .limits) .lower) (w .0) k in
+      let lj = small (up .0) (up .1) in
+      a .2 (up .0) (lt-of-lt-of-le lj (few c)) (subst (λ (y : ℕ). So (has y (up .0))) (sym ej) (up .1))
+      (rw (source-set st crew at n table c src (up .0) lj) (subset-iff (permissionSet ρ (w .0)) (permissionSet ρ (up .0)) .0 (up .2) p (cv .1))))))
+    where
+      source-count' : candidateCount (rolesOf st) ≡ c
+      source-count' = source-count st crew at n table c src
+
+      few : (c' : ℕ) → c ≤ 128
+      few _ = rw source-count' at (src .limits .candidates-most)
+
+-- what the test of a row tells
+pub row-tested : (t : Bool) (x y s m : ℕ) → m ≤ 256 → t ≡ subset x s → x ≡ y → s ≡ collect 256 (λ i. ltb i m) → t ≡ ltb y (2 ^ m)
+row-tested t x y s m l et ex es = et ∙ ap₂ subset ex es ∙ within-below y m l
+
+pub users-counted : (st : State) (crew : List ℕ) (at n : ℕ) (table : List ℕ) (c : ℕ) → Source st crew at n table c
+    → allCovered (rolesOf st) (st .standing) ≡ all n (userCovered st)
+users-counted st crew at n table c src = users-test st ∙ ap (λ (k : ℕ). all k (userCovered st)) (src .users)
+
+pub own-roles-are : (st : State) (crew : List ℕ) (at n : ℕ) (table : List ℕ) (c : ℕ) → Source st crew at n table c
+    → (low roles users : List ℕ) → Indexed st low roles users → (u x s r : ℕ) → u < n → x ≡ setAt 2 roles (2 * u) → s ≡ x ∩ r → st .standing ≡ r → s ≡ userRoles st u
+unfolding userRoles
+own-roles-are st crew at n table c src low roles users ix u x s r lu ex es er =
+    es ∙ ap₂ _∩_ (ex ∙ ix .user-roles u (rw (src .users) lu)) (sym er)

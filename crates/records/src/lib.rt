@@ -1,0 +1,12 @@
+// Whole records: written from the tables of a state, and judged.
+mod check;
+mod cover;
+mod fresh;
+mod write;
+
+pub use check::is_sound;
+pub use check::pad;
+pub use cover::all_covered;
+pub use cover::rows_within;
+pub use fresh::write_fresh;
+pub use write::write_record;

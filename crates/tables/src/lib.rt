@@ -1,0 +1,70 @@
+// A slice of words as a table of sets: reading and writing a set at a place, copying and comparing a region.
+ghost use mathlib.Core.Path.{_≡_};
+ghost use Prim.Native.Nat.{_+_, _≤_};
+ghost use lib.Dec.{eqb};
+ghost use lib.ListN.{length, getD};
+ghost use Rattle.sets.specs.Held.{set128, set256};
+ghost use Rattle.sets.specs.Truth.{all};
+ghost use Rattle.model.specs.Lists.{setAt};
+ghost use Rattle.tables.specs.Stores.{putAt, wordsOf};
+use sets::Set128;
+use sets::Set256;
+
+pub fn load256(ws: &[u64], at: usize) -> Set256
+    requires { ⌜ at + 4 ≤ length (now ws) ⌝ }
+    ensures { λ r. ⌜ set256 r ≡ setAt 4 (now (ws .entry)) at ⌝ }
+{
+    Set256::from_words([ws[at], ws[at + 1], ws[at + 2], ws[at + 3]])
+}
+
+pub fn load128(ws: &[u64], at: usize) -> Set128
+    requires { ⌜ at + 2 ≤ length (now ws) ⌝ }
+    ensures { λ r. ⌜ set128 r ≡ setAt 2 (now (ws .entry)) at ⌝ }
+{
+    Set128::from_words([ws[at], ws[at + 1]])
+}
+
+pub fn store256(ws: &mut [u64], at: usize, s: Set256)
+    requires { ⌜ at + 4 ≤ length (now ws) ⌝ }
+    ensures { λ r. ⌜ now (ws .exit) ≡ putAt (now (ws .entry)) at (wordsOf 4 (set256 s)) ⌝ }
+{
+    ws[at] = s.word(0);
+    ws[at + 1] = s.word(1);
+    ws[at + 2] = s.word(2);
+    ws[at + 3] = s.word(3);
+}
+
+pub fn store128(ws: &mut [u64], at: usize, s: Set128)
+    requires { ⌜ at + 2 ≤ length (now ws) ⌝ }
+    ensures { λ r. ⌜ now (ws .exit) ≡ putAt (now (ws .entry)) at (wordsOf 2 (set128 s)) ⌝ }
+{
+    ws[at] = s.word(0);
+    ws[at + 1] = s.word(1);
+}
+
+// Puts all of src into ws, from place `at` on.
+pub fn copy(ws: &mut [u64], at: usize, src: &[u64])
+    requires { ⌜ at + length (now src) ≤ length (now ws) ⌝ }
+    ensures { λ r. ⌜ now (ws .exit) ≡ putAt (now (ws .entry)) at (now (src .entry)) ⌝ }
+{
+    let mut i = 0;
+    while i < src.len() {
+        ws[at + i] = src[i];
+        i += 1;
+    }
+}
+
+// Whether ws holds all of src, from place `at` on.
+pub fn holds(ws: &[u64], at: usize, src: &[u64]) -> bool
+    requires { ⌜ at + length (now src) ≤ length (now ws) ⌝ }
+    ensures { λ r. ⌜ r ≡ all (length (now (src .entry))) (λ i. eqb (getD (now (ws .entry)) (at + i) 0) (getD (now (src .entry)) i 0)) ⌝ }
+{
+    let mut i = 0;
+    while i < src.len() {
+        if ws[at + i] != src[i] {
+            return false;
+        }
+        i += 1;
+    }
+    true
+}
