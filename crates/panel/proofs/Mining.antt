@@ -10,7 +10,7 @@ use borrow.Author.Tests.{not-true, not-false}
 use lib.Dec.{eqb, leb}
 use lib.ListN.{length, getD}
 use Rattle.sets.specs.Truth.{_and_, isnt, if_then_else_}
-use Rattle.sets.proofs.Truth.{So-not, not-So, and-iff, isnt-iff, eqb-iff, leb-iff, if-true, if-false}
+use Rattle.sets.proofs.Truth.{same-test, So-not, not-So, and-iff, isnt-iff, eqb-iff, leb-iff, if-true, if-false}
 use Rattle.model.specs.Lists.{rowsAt}
 use Rattle.model.specs.Candidates.{candidates}
 use Rattle.model.specs.Hierarchy.{candidateCount, permissionSet}
@@ -37,9 +37,6 @@ module _ (n m : ℕ) (crew ws : List ℕ) where
   abbrev rows : List ℕ
   rows = rowsAt n crew 0
 
-  abbrev pub Kept : Type 0
-  Kept = (1 ≤ n) × (n ≤ 128) × (1 ≤ m) × (m ≤ 256)
-
   pub refused : (k : ℕ) (r : MineAnswer) → (r .code ≡ k) × (r .candidates ≡ 0) → k ≢ 0 → miningRefusal n m crew ws ≡ k → mined r ws ≡ mine n m crew ws
   unfolding mined mine
   refused k r a d e =
@@ -55,26 +52,33 @@ module _ (n m : ℕ) (crew ws : List ℕ) where
     first : (rest : ℕ) → (if isnt (eqb (length ws) recordLength) then 1 else rest) ≡ rest
     first rest = passes (eqb (length ws) recordLength) 1 rest (eqb-iff (length ws) recordLength .1 full)
 
-    pub code-2 : (Kept → ⊥) → miningRefusal n m crew ws ≡ 2
+    pub code-2 : withinLimits n m ≡ false → miningRefusal n m crew ws ≡ 2
     unfolding miningRefusal
-    code-2 d = first _ ∙ stops (withinLimits n m) 2 _ (not-So (withinLimits n m) (λ h. d (withinLimits-iff n m .0 h)))
+    code-2 f = first _ ∙ stops (withinLimits n m) 2 _ f
 
-    module _ (kept : Kept) where
+    module _ (ok : So (withinLimits n m)) where
+      pub few-users : n ≤ 128
+      few-users = withinLimits-iff n m .0 ok .1
+
+      pub few-permissions : m ≤ 256
+      few-permissions = withinLimits-iff n m .0 ok .3
+
       second : (rest : ℕ) → (if isnt (withinLimits n m) then 2 else rest) ≡ rest
-      second rest = passes (withinLimits n m) 2 rest (withinLimits-iff n m .1 kept)
+      second rest = passes (withinLimits n m) 2 rest ok
 
-      pub code-3 : ((length crew ≡ 4 * n) × So (rowsWithin m rows) → ⊥) → miningRefusal n m crew ws ≡ 3
+      pub code-3 : (eqb (length crew) (4 * n) and rowsWithin m rows) ≡ false → miningRefusal n m crew ws ≡ 3
       unfolding miningRefusal
-      code-3 d =
-          let t = eqb (length crew) (4 * n) and rowsWithin m rows in
-          first _ ∙ second _
-          ∙ stops t 3 _ (not-So t (λ h. let a = and-iff (eqb (length crew) (4 * n)) (rowsWithin m rows) .0 h in d (eqb-iff (length crew) (4 * n) .0 (a .0), a .1)))
+      code-3 f = first _ ∙ second _ ∙ stops (eqb (length crew) (4 * n) and rowsWithin m rows) 3 _ f
 
-      module _ (size : length crew ≡ 4 * n) (within : So (rowsWithin m rows)) where
+      module _ (fits : So (eqb (length crew) (4 * n) and rowsWithin m rows)) where
+        pub size : length crew ≡ 4 * n
+        size = eqb-iff (length crew) (4 * n) .0 (and-iff (eqb (length crew) (4 * n)) (rowsWithin m rows) .0 fits .0)
+
+        within : So (rowsWithin m rows)
+        within = and-iff (eqb (length crew) (4 * n)) (rowsWithin m rows) .0 fits .1
+
         third : (rest : ℕ) → (if isnt (eqb (length crew) (4 * n) and rowsWithin m rows) then 3 else rest) ≡ rest
-        third rest =
-            passes (eqb (length crew) (4 * n) and rowsWithin m rows) 3 rest
-            (and-iff (eqb (length crew) (4 * n)) (rowsWithin m rows) .1 (eqb-iff (length crew) (4 * n) .1 size, within))
+        third rest = passes (eqb (length crew) (4 * n) and rowsWithin m rows) 3 rest fits
 
         pub code-4 : 128 < length (candidates rows) → miningRefusal n m crew ws ≡ 4
         unfolding miningRefusal
@@ -99,6 +103,7 @@ module _ (n m : ℕ) (crew ws : List ℕ) where
         pub tabled : (table : List ℕ) (c : ℕ) → Written table c (candidates rows) → Tabled (fresh n m rows) crew 0 n table c
         unfolding fresh rolesOf permissionSet
         tabled table c w =
+            let kept = withinLimits-iff n m .0 ok in
             let limits =
             fresh-fit n m rows (kept .0) (kept .1) (kept .2) (kept .3) (length-rowsAt n crew 0)
             (λ u l. rowsWithin-iff m rows .0 within u (rw (length-rowsAt n crew 0) l)) (rw (sym (w .holds .count)) (w .holds .frame .few)) .limits in
@@ -106,3 +111,32 @@ module _ (n m : ℕ) (crew ws : List ℕ) where
               source = record { limits = limits; users = refl; rows = refl; sets = sym (w .holds .rows) };
               set-words = w .words;
             }
+
+-- ---- the limits, test by test
+
+out-of : (n m : ℕ) → ((1 ≤ n) × (n ≤ 128) × (1 ≤ m) × (m ≤ 256) → ⊥) → false ≡ withinLimits n m
+out-of n m d = sym (not-So (withinLimits n m) (λ h. d (withinLimits-iff n m .0 h)))
+
+pub no-users : (n m : ℕ) → n < 1 → false ≡ withinLimits n m
+no-users n m l = out-of n m (λ k. let a = k .0 in let z : ⊥ = omega arith in z)
+
+pub many-users : (n m : ℕ) → 128 < n → false ≡ withinLimits n m
+many-users n m l = out-of n m (λ k. let a = k .1 in let z : ⊥ = omega arith in z)
+
+pub no-permissions : (n m : ℕ) → m < 1 → false ≡ withinLimits n m
+no-permissions n m l = out-of n m (λ k. let a = k .2 in let z : ⊥ = omega arith in z)
+
+pub last-limit : (n m : ℕ) → 1 ≤ n → n ≤ 128 → 1 ≤ m → leb m 256 ≡ withinLimits n m
+last-limit n m n1 n128 m1 =
+    same-test (leb m 256) (withinLimits n m) (λ h. withinLimits-iff n m .1 (n1, n128, m1, leb-iff m 256 .0 h)) (λ h. leb-iff m 256 .1 (withinLimits-iff n m .0 h .3))
+
+-- ---- the crew list's size
+
+pub other-size : (n m k : ℕ) (rows : List ℕ) → k ≢ 4 * n → false ≡ (eqb k (4 * n) and rowsWithin m rows)
+other-size n m k rows d =
+    sym (not-So (eqb k (4 * n) and rowsWithin m rows) (λ h. d (eqb-iff k (4 * n) .0 (and-iff (eqb k (4 * n)) (rowsWithin m rows) .0 h .0))))
+
+pub right-size : (n m k : ℕ) (t : Bool) (rows : List ℕ) → k ≡ 4 * n → t ≡ rowsWithin m rows → t ≡ (eqb k (4 * n) and rowsWithin m rows)
+right-size n m k t rows e h =
+    h ∙ same-test (rowsWithin m rows) (eqb k (4 * n) and rowsWithin m rows)
+    (λ x. and-iff (eqb k (4 * n)) (rowsWithin m rows) .1 (eqb-iff k (4 * n) .1 e, x)) (λ x. and-iff (eqb k (4 * n)) (rowsWithin m rows) .0 x .1)

@@ -1,7 +1,14 @@
 ghost use mathlib.Core.Path.{_≡_};
-ghost use Rattle.panel.specs.Answers.{mined};
+ghost use Prim.Native.Nat.{_*_, _≤_};
+ghost use lib.Dec.{eqb};
+ghost use lib.ListN.{length};
+ghost use Rattle.sets.specs.Truth.{_and_};
+ghost use Rattle.model.specs.Lists.{rowsAt};
+ghost use Rattle.model.specs.State.{withinLimits, rowsWithin};
 ghost use Rattle.model.specs.Calls.{mine};
+ghost use Rattle.panel.specs.Answers.{mined};
 use mining::Mined;
+use records::LENGTH;
 use records::rows_within;
 use records::write_fresh;
 
@@ -21,31 +28,45 @@ fn refused(code: u64) -> MineAnswer
     }
 }
 
-// Mines roles from a crew list of n users and m permissions, four words to a user, and writes the whole record, with all candidates standing.
-// Nothing is written before the last refusal.
+fn limits_kept(n: u64, m: u64) -> bool
+    ensures { λ r. ⌜ r ≡ withinLimits n m ⌝ }
+{
+    if n < 1 {
+        return false;
+    }
+    if 128 < n {
+        return false;
+    }
+    if m < 1 {
+        return false;
+    }
+    m <= 256
+}
+
+// Whether the crew list has four words to a user, and no permission at m or above.
+fn crew_fits(crew: &[u64], n: usize, m: usize) -> bool
+    requires { ⌜ (n ≤ 128) × (m ≤ 256) ⌝ }
+    ensures { λ r. ⌜ r ≡ (eqb (length (now (crew .entry))) (4 * n) and rowsWithin m (rowsAt n (now (crew .entry)) 0)) ⌝ }
+{
+    if crew.len() != 4 * n {
+        return false;
+    }
+    rows_within(crew, 0, n, m)
+}
+
+// Mines roles from a crew list of n users and m permissions and writes the whole record, with all candidates standing. Nothing is written
+// before the last refusal.
 #[no_mangle]
 pub extern "C" fn panel_mine(n: u64, m: u64, crew: &[u64], rec: &mut [u64]) -> MineAnswer
     ensures { λ r. ⌜ mined r (now (rec .exit)) ≡ mine n m (now (crew .entry)) (now (rec .entry)) ⌝ }
 {
-    if rec.len() != 2056 {
+    if rec.len() != LENGTH {
         return refused(1);
     }
-    if n < 1 {
+    if !limits_kept(n, m) {
         return refused(2);
     }
-    if 128 < n {
-        return refused(2);
-    }
-    if m < 1 {
-        return refused(2);
-    }
-    if 256 < m {
-        return refused(2);
-    }
-    if crew.len() != 4 * n as usize {
-        return refused(3);
-    }
-    if !rows_within(crew, 0, n as usize, m as usize) {
+    if !crew_fits(crew, n as usize, m as usize) {
         return refused(3);
     }
     let mut table = [0u64; 512];

@@ -1,0 +1,5 @@
+pub mod Lines
+pub mod Forms
+pub mod Laid
+pub mod Answers
+pub mod Canonical

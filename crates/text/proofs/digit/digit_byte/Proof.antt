@@ -1,0 +1,29 @@
+-- Digits below 10, and letters.
+-- Assumes nothing.
+use Rattle.text.proofs.Digits.{byte-decimal, byte-letter}
+use borrow.Author.Needs.{needs}
+use native.Mathlib.Omega.{arith}
+use Rattle.text.proofs.digit.digit_byte.Statement.{statement}
+use Rattle.text.proofs.digit.digit_byte.Tie as tie
+
+cast-result : tie.Need-cast-result
+cast-result c = search needs
+
+add-result : tie.Need-add-result
+add-result c = search needs
+
+returns : tie.Need-returns
+returns c = omega (arith, byte-decimal _ (c .if1 .taken))
+
+cast-result-2 : tie.Need-cast-result-2
+cast-result-2 c = search needs
+
+add-result-2 : tie.Need-add-result-2
+add-result-2 c = search needs
+
+returns-2 : tie.Need-returns-2
+returns-2 c = omega (arith, byte-letter _ (c .if1 .left))
+
+pub digit-byte-spec : {M : Type 1} → statement M
+digit-byte-spec =
+    tie.close (tie.spec cast-result add-result returns cast-result-2 add-result-2 returns-2)

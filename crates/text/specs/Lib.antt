@@ -1,0 +1,5 @@
+pub mod Digits
+pub mod Fixed
+pub mod Decimal
+pub mod Hexadecimal
+pub mod Stores
