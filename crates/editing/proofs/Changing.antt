@@ -1,0 +1,204 @@
+-- What differs between the building with a role and that without, and the two changes.
+-- Assumes nothing.
+use mathlib.Core.Path.{_≡_, refl, sym, _∙_, ap}
+use mathlib.Core.Bool.{Bool, false, So}
+use mathlib.Core.Logic.{_≢_, _⊎_, ⊎-elim}
+use mathlib.Core.List.{List}
+use Prim.Native.Nat.{ℕ, _+_, _*_, _^_, _≤_, _<_}
+use native.Mathlib.Omega.{arith}
+use lib.Dec.{ltb}
+use lib.ListN.{getD, take, drop}
+use Rattle.sets.specs.Truth.{if_then_else_}
+use Rattle.sets.specs.Sets.{has, _∪_, _∖_, single, collect}
+use Rattle.sets.proofs.Truth.{ltb-iff, if-true}
+use Rattle.sets.proofs.Items.{same-set}
+use Rattle.sets.proofs.Order.{collect-iff, ∪-iff, single-iff, single-lt, has-with, with-without, ∪-lt, ∖-lt}
+use Rattle.model.specs.Lists.{setAt}
+use Rattle.model.specs.Hierarchy.{Roles, candidateCount, immediatelySenior, immediateJuniors}
+use Rattle.model.specs.Indexes.{lower}
+use Rattle.model.specs.Record.{juniorsStart, built}
+use Rattle.model.specs.State.{State, rolesOf, standingNow}
+use Rattle.model.specs.Altered.{concerned, Altered}
+use Rattle.model.proofs.Reading.{Ordered, immediate-iff, junior-iff}
+use Rattle.model.proofs.Building.{stands-below, senior-stands}
+use Rattle.model.proofs.Changes.{restored-ordered, juniors-same, permissions-same, members-same}
+use Rattle.model.proofs.Record.{Limits, built-word, word-juniors, juniors-small, read-count, read-standing}
+use Rattle.model.proofs.Steps.{limits-ordered, limits-now}
+use Rattle.model.proofs.Altered.{concerned-iff, strike-altered, restore-altered}
+use Rattle.tables.specs.Tables.{Holds}
+use Rattle.hierarchy.specs.Tables.{Numbered}
+use Rattle.hierarchy.proofs.Building.{seniors-same}
+use Rattle.building.specs.Tables.{Indexed}
+use Rattle.building.proofs.Sources.{numbered}
+use Rattle.editing.specs.Partway.{Region, Differ}
+use Rattle.editing.proofs.Regions.{region-holds, region-read}
+
+-- ---- outside of the neighbours nothing differs; R is the standing set with k in it
+
+module _ (ρ : Roles) (R k : ℕ) (o : Ordered ρ R) (stands : So (has R k)) where
+  -- the immediate seniors of k
+  abbrev pub seniors : ℕ
+  seniors = collect (candidateCount ρ) (λ i. has (immediateJuniors ρ R i) k)
+
+  with-k : (s x : ℕ) → k < 128 → x ≡ (if ltb k 128 then s ∪ single k else s) → (i : ℕ) → So (has s i) ⊎ (i ≡ k) → So (has x i)
+  with-k s x small e i h =
+      rw (e ∙ if-true (ltb k 128) (s ∪ single k) s (ltb-iff k 128 .1 small))
+      (⊎-elim (λ t. ∪-iff s (single k) i .1 (_⊎_.inl t)) (λ d. ∪-iff s (single k) i .1 (_⊎_.inr (single-iff k i .1 (sym d)))) h)
+
+  senior-in : (i : ℕ) → So (immediatelySenior ρ R i k) → So (has seniors i)
+  senior-in i h =
+      collect-iff (candidateCount ρ) (λ i. has (immediateJuniors ρ R i) k) i .1
+      (stands-below ρ R o i (senior-stands ρ R o i k (immediate-iff ρ R i k .0 h .0) .0), junior-iff ρ R i k .1 (stands-below ρ R o k stands, h))
+
+  junior-in : (j : ℕ) → So (immediatelySenior ρ R k j) → So (has (immediateJuniors ρ R k) j)
+  junior-in j h = junior-iff ρ R k j .1 (stands-below ρ R o j (senior-stands ρ R o k j (immediate-iff ρ R k j .0 h .0) .1), h)
+
+  module _ (s x t y : ℕ) (small : k < 128) (es : s ≡ seniors) (ex : x ≡ (if ltb k 128 then s ∪ single k else s)) (et : t ≡ immediateJuniors ρ R k)
+      (ey : y ≡ (if ltb k 128 then t ∪ single k else t)) where
+    upper-out : (i : ℕ) → (So (has x i) → ⊥) → (i ≢ k) × (So (immediatelySenior ρ R i k) → ⊥)
+    upper-out i d = (λ e. d (with-k s x small ex i (_⊎_.inr e)), λ h. d (with-k s x small ex i (_⊎_.inl (rw es (senior-in i h)))))
+
+    lower-out : (j : ℕ) → (So (has y j) → ⊥) → (j ≢ k) × (So (immediatelySenior ρ R k j) → ⊥)
+    lower-out j d = (λ e. d (with-k t y small ey j (_⊎_.inr e)), λ h. d (with-k t y small ey j (_⊎_.inl (rw et (junior-in j h)))))
+
+    pub differ-out : Differ ρ R (R ∖ single k) x y
+    differ-out =
+        record {
+          juniors = λ i d. let a = upper-out i d in sym (juniors-same ρ R o k i (a .0) (a .1));
+          permissions = λ i d. let a = upper-out i d in sym (permissions-same ρ R o k i (a .0) (a .1));
+          members = λ j d. let a = lower-out j d in sym (members-same ρ R o k j (a .0) (a .1));
+        }
+
+    pub differ-back : Differ ρ (R ∖ single k) R x y
+    differ-back =
+        let a = differ-out in
+        record { juniors = λ i d. sym (a .juniors i d); permissions = λ i d. sym (a .permissions i d); members = λ j d. sym (a .members j d) }
+
+-- ---- what a record tells of the neighbours
+
+module _ (st : State) (lim : Limits st) (ws : List ℕ) (e : ws ≡ built st) where
+  pub count : candidateCount (rolesOf st) ≡ getD ws 2 0
+  count = sym (ap (λ (l : List ℕ). getD l 2 0) e ∙ read-count st lim)
+
+  -- so that word 2 is small enough to count by
+  pub few : getD ws 2 0 ≤ 128
+  few = rw count at (lim .candidates-most)
+
+  standing-read : setAt 2 ws 4 ≡ st .standing
+  standing-read = ap (λ (l : List ℕ). setAt 2 l 4) e ∙ read-standing st lim
+
+  juniors-held : Region 2 juniorsStart (immediateJuniors (rolesOf st) (st .standing)) ws
+  juniors-held i j li lj =
+      ap (λ (l : List ℕ). getD l (juniorsStart + 2 * i + j) 0) e ∙ built-word st (juniorsStart + 2 * i + j) (omega arith) ∙ word-juniors st i j li lj
+
+  seniors-read : (c : ℕ) → candidateCount (rolesOf st) ≡ c → (k : ℕ)
+      → collect c (λ i. has (setAt 2 (take 256 (drop juniorsStart ws)) (2 * i)) k) ≡ collect (candidateCount (rolesOf st)) (λ i. has (immediateJuniors (rolesOf st) (st .standing) i) k)
+  seniors-read c same k =
+      seniors-same (rolesOf st) (st .standing) k c (take 256 (drop juniorsStart ws)) same
+      (region-holds 2 juniorsStart c 256 (immediateJuniors (rolesOf st) (st .standing)) ws refl (rw same at (lim .candidates-most)) (λ i l. juniors-small st lim i) juniors-held)
+
+  juniors-read : (k : ℕ) → k < 128 → setAt 2 ws (juniorsStart + 2 * k) ≡ immediateJuniors (rolesOf st) (st .standing) k
+  juniors-read k small = region-read 2 juniorsStart k (immediateJuniors (rolesOf st) (st .standing)) ws small (juniors-small st lim k) juniors-held
+
+-- ---- the two changes
+
+-- what the change of a record to a standing set promises
+abbrev Changed : (ws low users after : List ℕ) (c R x y : ℕ) → Type 0
+Changed ws low users after c R x y =
+    (st : State) (roles : List ℕ) → Limits st → candidateCount (rolesOf st) ≡ c → R < 2 ^ candidateCount (rolesOf st) → ws ≡ built st
+    → Indexed st low roles users → Differ (rolesOf st) (st .standing) R x y → after ≡ built (standingNow st R)
+
+module _ (st : State) (lim : Limits st) (roles ws low users after : List ℕ) (e : ws ≡ built st) (ix : Indexed st low roles users) (k : ℕ) (small : k < 128) where
+  pub taken-out : (r R s x t y : ℕ) → r ≡ setAt 2 ws 4 → R ≡ r ∖ single k
+      → s ≡ collect (getD ws 2 0) (λ i. has (setAt 2 (take 256 (drop juniorsStart ws)) (2 * i)) k) → t ≡ setAt 2 ws (juniorsStart + 2 * k)
+      → x ≡ (if ltb k 128 then s ∪ single k else s) → y ≡ (if ltb k 128 then t ∪ single k else t)
+      → Changed ws low users after (getD ws 2 0) R x y → So (has (st .standing) k) → after ≡ built (standingNow st (st .standing ∖ single k))
+  taken-out r R s x t y er eR es et ex ey changed stands =
+      let ρ = rolesOf st in
+      let Q = st .standing in
+      let o = limits-ordered st lim in
+      let new : R ≡ Q ∖ single k = eR ∙ ap (λ (z : ℕ). z ∖ single k) (er ∙ standing-read st lim ws e) in
+      let d = differ-out ρ Q k o stands s x t y small (es ∙ seniors-read st lim ws e (getD ws 2 0) (count st lim ws e) k) ex
+      (et ∙ juniors-read st lim ws e k small) ey in
+      changed st roles lim (count st lim ws e) (rw new (∖-lt (candidateCount ρ) Q (single k) (lim .standing-below))) e ix (rw new d) ∙ ap (λ (z : ℕ). built (standingNow st z)) new
+
+  pub put-back : (r R s x t y : ℕ) → r ≡ setAt 2 ws 4 → R ≡ (if ltb k 128 then r ∪ single k else r)
+      → ((ρ : Roles) → Numbered ρ → candidateCount ρ ≡ getD ws 2 0 → Holds 2 (candidateCount ρ) (lower ρ) low → R < 2 ^ candidateCount ρ → s ≡ collect (candidateCount ρ) (λ i. has (immediateJuniors ρ R i) k))
+      → ((ρ : Roles) → Numbered ρ → Holds 2 (candidateCount ρ) (lower ρ) low → R < 2 ^ candidateCount ρ → t ≡ immediateJuniors ρ R k)
+      → x ≡ (if ltb k 128 then s ∪ single k else s) → y ≡ (if ltb k 128 then t ∪ single k else t)
+      → Changed ws low users after (getD ws 2 0) R x y → k < candidateCount (rolesOf st) → has (st .standing) k ≡ false
+      → after ≡ built (standingNow st (st .standing ∪ single k))
+  put-back r R s x t y er eR es et ex ey changed lk absent =
+      let ρ = rolesOf st in
+      let Q = st .standing in
+      let n = numbered st lim in
+      let new : R ≡ Q ∪ single k = eR ∙ if-true (ltb k 128) (r ∪ single k) r (ltb-iff k 128 .1 small) ∙ ap (λ (z : ℕ). z ∪ single k) (er ∙ standing-read st lim ws e) in
+      let o : Ordered ρ R = rw new (restored-ordered ρ Q k lk (limits-ordered st lim)) in
+      let less : R ∖ single k ≡ Q = ap (λ (z : ℕ). z ∖ single k) new ∙ with-without Q k absent in
+      let d = differ-back ρ R k o (rw new (has-with Q k)) s x t y small (es ρ n (count st lim ws e) (ix .low-ones) (o .below)) ex (et ρ n (ix .low-ones) (o .below)) ey in
+      changed st roles lim (count st lim ws e) (o .below) e ix (rw less at d) ∙ ap (λ (z : ℕ). built (standingNow st z)) new
+
+-- ---- the neighbours themselves
+
+pub neighbours-found : (st : State) (c k s t u r : ℕ) (ws : List ℕ) → k < 128 → s ≡ collect c (λ i. has (setAt 2 (take 256 (drop juniorsStart ws)) (2 * i)) k)
+    → t ≡ setAt 2 ws (juniorsStart + 2 * k) → u ≡ s ∪ t → r ≡ (if ltb k 128 then u ∪ single k else u) → Limits st → candidateCount (rolesOf st) ≡ c
+    → ws ≡ built st → k < candidateCount (rolesOf st) → r ≡ collect (candidateCount (rolesOf st)) (λ i. concerned (rolesOf st) (st .standing) k i)
+neighbours-found st c k s t u r ws small es et eu er lim count e lk =
+    let ρ = rolesOf st in
+    let Q = st .standing in
+    let o = limits-ordered st lim in
+    let upper : ℕ → Bool = λ i. has (immediateJuniors ρ Q i) k in
+    let test : ℕ → Bool = λ i. concerned ρ Q k i in
+    let seniors : s ≡ collect (candidateCount ρ) upper = es ∙ seniors-read st lim ws e c count k in
+    let juniors : t ≡ immediateJuniors ρ Q k = et ∙ juniors-read st lim ws e k small in
+    let all : r ≡ u ∪ single k = er ∙ if-true (ltb k 128) (u ∪ single k) u (ltb-iff k 128 .1 small) in
+    same-set r (collect (candidateCount ρ) test)
+    (λ i h.
+    ⊎-elim
+    (λ a.
+    ⊎-elim
+    (λ b.
+    let d = collect-iff (candidateCount ρ) upper i .0 (rw seniors at b) in
+    collect-iff (candidateCount ρ) test i .1 (d .0, concerned-iff ρ Q k i .1 (_⊎_.inr (_⊎_.inl (junior-iff ρ Q i k .0 (d .1) .1)))))
+    (λ b.
+    let d = junior-iff ρ Q k i .0 (rw juniors at b) in
+    collect-iff (candidateCount ρ) test i .1 (d .0, concerned-iff ρ Q k i .1 (_⊎_.inr (_⊎_.inr (d .1)))))
+    (∪-iff s t i .0 (rw eu at a)))
+    (λ a.
+    let d : k ≡ i = single-iff k i .0 a in
+    collect-iff (candidateCount ρ) test i .1 (rw d at lk, concerned-iff ρ Q k i .1 (_⊎_.inl (sym d)))) (∪-iff u (single k) i .0 (rw all at h)))
+    (λ i h.
+    let a = collect-iff (candidateCount ρ) test i .0 h in
+    rw all
+    (∪-iff u (single k) i .1
+    (⊎-elim (λ d. _⊎_.inr (single-iff k i .1 (sym d)))
+    (λ d.
+    _⊎_.inl
+    (rw eu
+    (∪-iff s t i .1
+    (⊎-elim (λ x. _⊎_.inl (rw seniors (collect-iff (candidateCount ρ) upper i .1 (a .0, junior-iff ρ Q i k .1 (lk, x)))))
+    (λ x. _⊎_.inr (rw juniors (junior-iff ρ Q k i .1 (a .0, x)))) d)))) (concerned-iff ρ Q k i .0 (a .1)))))
+
+-- ---- what follows of every change: only the words that the paper allows are altered
+
+pub taken-altered : (st : State) (k : ℕ) (before after : List ℕ) → Limits st → before ≡ built st → after ≡ built (standingNow st (st .standing ∖ single k))
+    → Altered (rolesOf st) (st .standing) k before after
+taken-altered st k before after lim eb ea =
+    rw (eb, ea)
+    (strike-altered st k (limits-ordered st lim) lim (limits-now st (st .standing ∖ single k) lim (∖-lt (candidateCount (rolesOf st)) (st .standing) (single k) (lim .standing-below))))
+
+pub put-altered : (st : State) (k : ℕ) (before after : List ℕ) → Limits st → k < candidateCount (rolesOf st) → has (st .standing) k ≡ false
+    → before ≡ built st → after ≡ built (standingNow st (st .standing ∪ single k)) → Altered (rolesOf st) (st .standing ∪ single k) k before after
+unfolding standingNow rolesOf
+put-altered st k before after lim lk absent eb ea =
+    let c = candidateCount (rolesOf st) in
+    let new = standingNow st (st .standing ∪ single k) in
+    let lim' : Limits new = limits-now st (st .standing ∪ single k) lim (∪-lt c (st .standing) (single k) (lim .standing-below) (single-lt c k lk)) in
+    let less : standingNow new (new .standing ∖ single k) ≡ st = ap (standingNow st) (with-without (st .standing) k absent) in
+    let a = restore-altered new k (limits-ordered new lim') lim' (rw less lim) in
+    rw (eb, ea) (rw less at a)
+
+-- the indexes of a state are those of every state with the same crew list
+pub indexed-now : (st : State) (R : ℕ) (low roles users : List ℕ) → Indexed st low roles users → Indexed (standingNow st R) low roles users
+unfolding standingNow rolesOf
+indexed-now st R low roles users ix = record { low-ones = ix .low-ones; user-roles = ix .user-roles; role-users = ix .role-users }

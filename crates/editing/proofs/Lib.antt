@@ -1,0 +1,4 @@
+pub mod Regions
+pub mod Partway
+pub mod Changing
+pub mod Seeking

@@ -1,0 +1,22 @@
+-- Put in exactly where the test holds.
+-- Assumes nothing.
+use borrow.Author.Needs.{needs}
+use mathlib.Core.Path.{sym, _∙_}
+use Rattle.sets.proofs.Order.{put-in, left-out}
+use Rattle.editing.proofs.seniors.with_senior.Statement.{statement}
+use Rattle.editing.proofs.seniors.with_senior.Tie as tie
+
+contains-requires : tie.Need-contains-requires
+contains-requires c κs = search needs
+
+insert-requires : tie.Need-insert-requires
+insert-requires c κs = search needs
+
+returns : tie.Need-returns
+returns c = put-in _ _ _ _ 128 (c .before .before .before .pre) (sym (c .before .before .contains .ensures) ∙ c .before .if1 .taken) (c .insert .ensures)
+
+returns-2 : tie.Need-returns-2
+returns-2 c = left-out _ _ _ (sym (c .before .contains .ensures) ∙ c .if1 .left)
+
+pub with-senior-spec : {M : Type 1} → statement M
+with-senior-spec = tie.close (tie.spec contains-requires insert-requires returns returns-2)

@@ -1,0 +1,38 @@
+-- A record on its way from one building to another.
+-- Assumes nothing.
+use mathlib.Core.Path.{_≡_}
+use mathlib.Core.Bool.{So}
+use mathlib.Core.List.{List}
+use Prim.Native.Nat.{ℕ, _+_, _*_, _<_}
+use lib.ListN.{length, getD}
+use Rattle.sets.specs.Truth.{if_then_else_}
+use Rattle.sets.specs.Sets.{has}
+use Rattle.sets.specs.Words.{word}
+use Rattle.model.specs.Hierarchy.{Roles, Rows, permissionSet, immediateJuniors, directPermissions, directMembers}
+use Rattle.model.specs.Record.{recordLength, crewStart, setsStart, permissionsStart, membersStart, juniorsStart, headerWord}
+use Rattle.model.specs.State.{State, rolesOf}
+
+-- the old entry of k where k is in s, the new one otherwise
+unfoldable pub still : ℕ → (ℕ → ℕ) → (ℕ → ℕ) → ℕ → ℕ
+still s old new k = if has s k then old k else new k
+
+-- from place `start` on stand the sets f 0, .. , f 127, w words each
+abbrev pub Region : ℕ → ℕ → (ℕ → ℕ) → List ℕ → Type 0
+Region w start f ws = (k j : ℕ) → k < 128 → j < w → getD ws (start + w * k + j) 0 ≡ word (f k) j
+
+-- the record built from a state, but that the roles of s still have their old immediate juniors, those of p their old direct permissions, and
+-- those of t their old direct members
+pub record Partway (old : Rows) (st : State) (s p t : ℕ) (ws : List ℕ) : Type 0 where
+  pub size : length ws ≡ recordLength
+  pub head : (i : ℕ) → i < 8 → getD ws i 0 ≡ headerWord st i
+  pub crew : Region 4 crewStart (λ u. getD (st .rows) u 0) ws
+  pub sets : Region 4 setsStart (permissionSet (rolesOf st)) ws
+  pub permissions : Region 4 permissionsStart (still p (old .permissions) (directPermissions (rolesOf st) (st .standing))) ws
+  pub members : Region 2 membersStart (still t (old .members) (directMembers (rolesOf st) (st .standing))) ws
+  pub juniors : Region 2 juniorsStart (still s (old .juniors) (immediateJuniors (rolesOf st) (st .standing))) ws
+
+-- two buildings differ in immediate juniors and direct permissions at most for the roles of s, in direct members at most for those of t
+pub record Differ (ρ : Roles) (R S s t : ℕ) : Type 0 where
+  pub juniors : (i : ℕ) → (So (has s i) → ⊥) → immediateJuniors ρ R i ≡ immediateJuniors ρ S i
+  pub permissions : (i : ℕ) → (So (has s i) → ⊥) → directPermissions ρ R i ≡ directPermissions ρ S i
+  pub members : (i : ℕ) → (So (has t i) → ⊥) → directMembers ρ R i ≡ directMembers ρ S i

@@ -1,0 +1,52 @@
+// A role taken out, and put back.
+ghost use mathlib.Core.Path.{_≡_};
+ghost use mathlib.Core.Bool.{false, So};
+ghost use mathlib.Core.List.{List};
+ghost use Prim.Native.Nat.{ℕ, _≤_, _<_};
+ghost use lib.ListN.{length, getD};
+ghost use Rattle.sets.specs.Sets.{has, _∪_, _∖_, single};
+ghost use Rattle.model.specs.Hierarchy.{candidateCount};
+ghost use Rattle.model.specs.Record.{recordLength, built};
+ghost use Rattle.model.specs.State.{State, rolesOf, standingNow};
+ghost use Rattle.model.proofs.Record.{Limits};
+ghost use Rattle.building.specs.Tables.{Indexed};
+use crate::rows::STANDING;
+use crate::rows::rewrite_lowers;
+use crate::rows::rewrite_uppers;
+use crate::seniors::seniors_of;
+use hierarchy::column;
+use hierarchy::juniors_of;
+use records::JUNIORS;
+use records::LENGTH;
+use tables::load128;
+use tables::store128;
+
+// Takes the standing role k out. Its neighbours are those of the building in which it stands, so they are read before anything is written.
+pub fn take_out(rec: &mut [u64], low: &[u64], users: &[u64], k: usize)
+    requires { ⌜ (length (now rec) ≡ recordLength) × (length (now low) ≡ 256) × (length (now users) ≡ 256) × (k < 128) × (getD (now rec) 2 0 ≤ 128) ⌝ }
+    ensures { λ r. ⌜ ((st : State) (roles : List ℕ) → Limits st → now (rec .entry) ≡ built st → Indexed st (now (low .entry)) roles (now (users .entry)) → So (has (st .standing) k) → now (rec .exit) ≡ built (standingNow st (st .standing ∖ single k))) ⌝ }
+{
+    let c = rec[2] as usize;
+    let standing = load128(rec, STANDING);
+    let left = standing.remove(k);
+    let seniors = column(&rec[JUNIORS..LENGTH], c, k);
+    let juniors = load128(rec, JUNIORS + 2 * k);
+    store128(rec, STANDING, left);
+    rewrite_uppers(rec, low, left, seniors.insert(k));
+    rewrite_lowers(rec, users, c, left, juniors.insert(k));
+}
+
+// Puts the absent candidate k back. Its neighbours are those of the building in which it stands again, so they are computed for that.
+pub fn put_back(rec: &mut [u64], low: &[u64], users: &[u64], k: usize)
+    requires { ⌜ (length (now rec) ≡ recordLength) × (length (now low) ≡ 256) × (length (now users) ≡ 256) × (k < 128) × (getD (now rec) 2 0 ≤ 128) ⌝ }
+    ensures { λ r. ⌜ ((st : State) (roles : List ℕ) → Limits st → now (rec .entry) ≡ built st → Indexed st (now (low .entry)) roles (now (users .entry)) → k < candidateCount (rolesOf st) → has (st .standing) k ≡ false → now (rec .exit) ≡ built (standingNow st (st .standing ∪ single k))) ⌝ }
+{
+    let c = rec[2] as usize;
+    let standing = load128(rec, STANDING);
+    let more = standing.insert(k);
+    let seniors = seniors_of(low, c, more, k);
+    let juniors = juniors_of(low, more, k);
+    store128(rec, STANDING, more);
+    rewrite_uppers(rec, low, more, seniors.insert(k));
+    rewrite_lowers(rec, users, c, more, juniors.insert(k));
+}
