@@ -1,10 +1,16 @@
-# `make run` shows roles, `make test` is the gate. A target that lacks a tool says which, in one line, and fails.
+# `make run` shows roles, `make test` is the gate. For those who link the library: `make example`, `make host-test`,
+# `make bench`. A target that lacks a tool says which, in one line, and fails.
 need = command -v $(1) >/dev/null 2>&1 || { echo "make $@: $(1) is missing: $(2)" >&2; exit 1; }
 
 RATTLE = install the Rattle toolchain and put its bin folder on the PATH
 PYTHON = install Python 3
+GCC = install GCC
+CARGO = install Rust with cargo
 
-.PHONY: test run vectors
+LIBRARY = target/staticlib/libpanel.a
+HOST = --offline --quiet --manifest-path host/Cargo.toml
+
+.PHONY: test run vectors example host-test bench
 
 test:
 	@$(call need,rt,$(RATTLE))
@@ -12,11 +18,43 @@ test:
 	rt fmt --check
 	python3 tests/test_model.py
 	python3 tests/vectors.py --check
+	python3 tests/header.py
 	RT_JOBS=2 rt ci
 
+# make run [CREW=path] [PRETTY=1]: the roles of a crew text, as the lister prints them or for a person
+CREW = examples/tour.crew
+
 run:
-	@echo "make run: the lister is not written yet" >&2; exit 1
+	@$(call need,rt,$(RATTLE))
+	@$(if $(PRETTY),$(call need,python3,$(PYTHON)))
+	@test -r "$(CREW)" || { echo "make run: can't read $(CREW)" >&2; exit 1; }
+	@mkdir -p target
+	@echo "proving and building the lister (some minutes the first time; log: target/run.log)" >&2
+	@rt check lister > target/run.log 2>&1 || { echo "make run: the lister could not be proved or built: see target/run.log" >&2; exit 1; }
+	@target/bin/lister < "$(CREW)" > target/roles.txt
+	@$(if $(PRETTY),python3 tools/pretty.py "$(CREW)" target/roles.svg < target/roles.txt,cat target/roles.txt)
 
 vectors:
 	@$(call need,python3,$(PYTHON))
 	python3 tests/vectors.py
+
+example:
+	@$(call need,rt,$(RATTLE))
+	@$(call need,gcc,$(GCC))
+	rt staticlib panel
+	gcc -std=c99 -O2 -Wall -Wextra -pedantic -Werror -Iinclude examples/panel.c $(LIBRARY) -o target/example
+	./target/example
+
+host-test:
+	@$(call need,rt,$(RATTLE))
+	@$(call need,cargo,$(CARGO))
+	@$(call need,gcc,$(GCC))
+	rt staticlib panel
+	cargo test $(HOST) --test compare
+
+bench:
+	@$(call need,rt,$(RATTLE))
+	@$(call need,cargo,$(CARGO))
+	@$(call need,gcc,$(GCC))
+	rt staticlib panel
+	cargo run $(HOST) --release --bin bench

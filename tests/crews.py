@@ -63,3 +63,17 @@ def wide(rng, m, n=12, kinds=6):
             row |= s
         rows.append(row)
     return n, m, rows
+
+
+def nested_groups(rng, n, m, groups=3):
+    """Each user holds the first so many permissions of one or two of these groups, which share the permissions out:
+    chains of roles, and the meets of two of them."""
+    groups = min(groups, m)
+    rows = []
+    for _ in range(n):
+        row = 0
+        for g in rng.sample(range(groups), min(groups, rng.randrange(1, 3))):
+            own = range(g, m, groups)
+            row |= sum(1 << p for p in own[:rng.randrange(1, len(own) + 1)])
+        rows.append(row)
+    return n, m, rows

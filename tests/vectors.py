@@ -8,7 +8,9 @@ import sys
 from pathlib import Path
 
 import crews
+import guards
 import model
+import worked
 
 ROOT = Path(__file__).resolve().parent.parent
 TARGETS = {}
@@ -113,42 +115,273 @@ def text_cases(rng):
     return {"stdin": stdin, "stdout": b"".join(lines)}
 
 
-def digest(words):
-    """Of a record, as the test programs print it: turned right by one bit before each word is added."""
-    d = 0
-    for word in words:
-        d = (d >> 1 | (d & 1) << 63) ^ word
-    return d
-
-
 @target("worked_cases")
 def worked_cases(rng):
-    """Mining on the cases of document 01, on lists at its limits and on lists wider than a word, as the program has them. The record goes
-    from case to case."""
-    def lacking(n):
-        return [2 ** n - 1 - 2 ** i for i in range(n)]
+    """Mining, quality and may on the cases of document 01, on lists at its limits and on damaged records."""
+    return {"stdout": "".join(line + "\n" for line in worked.lines()).encode("ascii")}
 
-    wide = random.Random("wide rows")
 
-    def rows_wide(m, n):
-        kinds = [wide.getrandbits(m) | 1 << (m - 1) for _ in range(4)]
-        return [kinds[i] if i < 4 else kinds[i % 4] & (kinds[(i + 1) % 4] | wide.getrandbits(m)) for i in range(n)]
+class Script:
+    """A script for the program `replay`, made beside what the model answers to it. The record goes from command to command."""
 
-    four_ones = 1 + 2 ** 64 + 2 ** 128 + 2 ** 192
-    cases = [(1, 1, [1]), (2, 3, [5, 5]), (3, 4, [0, 0, 0]), (3, 3, [3, 6, 7]), (7, 7, lacking(7)), (8, 8, lacking(8)),
-             (128, 256, [four_ones] * 128), (129, 256, [four_ones] * 129), (0, 3, []), (2, 256, [2 ** 255, 2 ** 255 + 1]),
-             (2, 257, [1, 2]), (1, 0, [0]), (1, 3, [8]), (1, 3, None), (2, 64, [2 ** 63, 2 ** 64]), (2, 65, [2 ** 64, 2 ** 65]),
-             (6, 65, rows_wide(65, 6)), (6, 129, rows_wide(129, 6)), (6, 256, rows_wide(256, 6))]
-    record = [0xaaaaaaaaaaaaaaaa] * 2056
-    lines = []
-    for label, (n, m, rows) in enumerate(cases, 1):
-        crew = [7, 0, 0] if rows is None else [w for row in rows for w in model.to_words(row, 4)]
-        code, candidates, record = model.mine(n, m, crew, record)
-        lines.append("%d: %d %d %d" % (label, code, candidates, digest(record)))
-    for label, length in ((20, 2055), (21, 2057)):
-        code, candidates, other = model.mine(1, 1, [1, 0, 0, 0], [7] * length)
-        lines.append("%d: %d %d %d" % (label, code, candidates, digest(other)))
-    return {"stdout": "".join(line + "\n" for line in lines).encode("ascii")}
+    def __init__(self):
+        self.record = [0xaaaaaaaaaaaaaaaa] * model.LENGTH
+        self.stdin, self.lines, self.calls = [], [], 0
+
+    def command(self, name, numbers, answer):
+        self.stdin.append(name + "".join(" %016x" % number for number in numbers) + "\n")
+        self.lines.append(" ".join([name, *map(str, answer), "%016x" % worked.digest(self.record)]) + "\n")
+        self.calls += name != "d"
+
+    def call(self, name, numbers, answer):
+        *answer, self.record = answer
+        self.command(name, numbers, answer)
+
+    def mine(self, n, m, words):
+        self.call("m", [n, m, len(words), *words], model.mine(n, m, words, self.record))
+
+    def strike(self, k):
+        self.call("s", [k], model.strike(self.record, k))
+
+    def restore(self, k):
+        self.call("r", [k], model.restore(self.record, k))
+
+    def eliminate(self, weights, a, b):
+        self.call("e", [*weights, a, b], model.eliminate(self.record, weights, a, b))
+
+    def review(self, weights):
+        self.call("v", weights, model.review(self.record, weights))
+
+    def quality(self, weights):
+        self.call("q", weights, model.quality(self.record, weights))
+
+    def may(self, u, p):
+        self.call("a", [u, p], model.may(self.record, u, p))
+
+    def damage(self, place, value):
+        self.record[place] = value
+        self.command("d", [place, value], [])
+
+
+def replay_crews(rng):
+    """Crew lists to strike and restore on: small ones of every kind, and some at the limits of 01."""
+    makers = [lambda: crews.random_sparse(rng, rng.randrange(2, 25), rng.randrange(3, 40)),
+              lambda: crews.random_dense(rng, rng.randrange(2, 7), rng.randrange(3, 12)),
+              lambda: crews.nested_chain(rng.randrange(1, 20), rng.randrange(1, 70)),
+              lambda: crews.nested_groups(rng, rng.randrange(3, 14), rng.randrange(4, 90)),
+              lambda: crews.duplicate_rows(rng, rng.randrange(3, 12), rng.randrange(2, 9)),
+              lambda: crews.duplicate_rows(rng, rng.randrange(3, 12), rng.randrange(65, 257), 5),
+              lambda: crews.wide(rng, rng.randrange(65, 257), rng.randrange(4, 10), 4),
+              lambda: crews.random_sparse(rng, rng.randrange(4, 16), rng.randrange(65, 257)),
+              lambda: crews.antichain(rng.randrange(2, 30), rng.randrange(31, 130)),
+              lambda: crews.lacking_one(rng.randrange(3, 6), rng.randrange(6, 80))]
+    lists = [(3, 3, [3, 6, 7]), (1, 1, [1]), (2, 3, [5, 5]), (3, 4, [0, 0, 0]), (3, 3, [3, 5, 6])]
+    lists += [make() for make in makers for _ in range(30)]
+    lists += [crews.lacking_one(7), crews.lacking_one(6, 70), crews.nested_chain(128, 256), crews.full_table(), crews.full_table_own()]
+    rng.shuffle(lists)
+    return lists
+
+
+def damage_of(rng, record):
+    """A place of the record and another word for it."""
+    n, m, c = record[0], record[1], record[2]
+    place, value = rng.choice([
+        (0, rng.choice((0, n + 1, 129, 2 ** 63))), (1, rng.choice((0, 257, 2 ** 63, 1))), (2, rng.choice((c + 1, 129, 2 ** 64 - 1))),
+        (rng.choice((3, 6, 7)), rng.getrandbits(64) | 1), (rng.choice((4, 5)), None), (rng.randrange(model.CREW, model.CREW + 4 * n), None),
+        (rng.randrange(model.SETS, model.SETS + 4 * c + 1), None), (rng.randrange(model.PERMISSIONS, model.PERMISSIONS + 4 * c + 1), None),
+        (rng.randrange(model.MEMBERS, model.MEMBERS + 2 * c + 1), None), (rng.randrange(model.JUNIORS, min(model.LENGTH, model.JUNIORS + 2 * c + 1)), None),
+        (rng.randrange(model.LENGTH), None), (model.LENGTH - 1, 1)])
+    return place, record[place] ^ 1 << rng.randrange(64) if value is None else value
+
+
+def weights_of(rng):
+    """Four weights, now and then one of them too large."""
+    weights = list(rng.choice(((0, 0, 0, 0), (1, 1, 1, 1), (1, 1, 1, 1), (1000, 1000, 1000, 1000), (1, 0, 0, 0), (0, 1, 0, 0), (0, 0, 1, 0), (0, 0, 0, 1),
+                               [rng.choice((0, 1, 1, 2, 3, 7, 1000)) for _ in range(4)], [rng.randrange(1001) for _ in range(4)])))
+    if rng.random() < 0.04:
+        weights[rng.randrange(4)] = rng.choice((1001, 2 ** 32, 2 ** 63, 2 ** 64 - 1))
+    return weights
+
+
+FALSE_TOLERANCES = [(0, 0), (1, 0), (0, 1), (3, 1), (2, 3), (5, 2), (999, 1000), (2001, 1000), (1001, 1001), (2002, 1001), (2 ** 63, 2 ** 63),
+                    (2 ** 64 - 1, 2 ** 63), (2 ** 64 - 1, 2 ** 64 - 1), (2 ** 64 - 1, 1), (1, 2 ** 64 - 1)]
+
+
+def tolerance_of(rng):
+    """a and b, mostly 1/1, now and then outside the range."""
+    if rng.random() < 0.04:
+        return rng.choice(FALSE_TOLERANCES)
+    b = rng.randrange(1, 1001)
+    return rng.choice(((1, 1), (1, 1), (1, 1), (3, 2), (2, 1), (4, 3), (9, 8), (1000, 999), (1001, 1000), (2000, 1000), (1000, 1000), (b, b), (b + b // 8, b),
+                       (rng.randrange(b, 2 * b + 1), b)))
+
+
+def guard_lists(script):
+    """The lists that tell the right machine from a wrong one, call by call."""
+    for guard in guards.GUARDS:
+        for kind, *numbers in guard["calls"] if guard["calls"][0][0] == "mine" else [("mine",), *guard["calls"]]:
+            if kind == "mine":
+                script.mine(len(guard["rows"]), guard["m"], model.crew_words(guard["rows"]))
+            else:
+                getattr(script, kind)(*numbers)
+
+
+def refused_weights(script):
+    """Rows 3, 5, 6, fresh: each way to be refused with 9, on a record that a call before it has changed; then 5 before 9."""
+    ones = [1, 1, 1, 1]
+    script.mine(3, 3, model.crew_words([3, 5, 6]))
+    script.strike(0)
+    for i in range(4):
+        for value in (1001, 2 ** 63, 2 ** 64 - 1):
+            weights = ones[:i] + [value] + ones[i + 1:]
+            script.eliminate(weights, 1, 1)
+            script.review(weights)
+            script.quality(weights)
+    for a, b in FALSE_TOLERANCES:
+        script.eliminate(ones, a, b)
+        script.eliminate([1001, 1, 1, 1], a, b)
+    script.damage(7, 1)
+    for weights in (ones, [1001, 1, 1, 1]):
+        script.eliminate(weights, 1, 1)
+        script.eliminate(weights, 3, 1)
+        script.review(weights)
+    script.damage(7, 0)
+    for a, b in ((1, 1), (2, 1), (1000, 1000), (2000, 1000)):
+        script.eliminate([0, 0, 0, 0], a, b)
+        script.review([0, 0, 0, 0])
+    script.eliminate([1000, 1000, 1000, 1000], 2000, 1000)
+    script.review([1000, 1000, 1000, 1000])
+
+
+def worst_lists(script, rng):
+    """7 users who each lack one of 7 permissions, by several weights and tolerances; 128 candidates with m = 256, of 8 users and of 128. Reviews
+    follow on what an elimination with other weights left, and on single restorations."""
+    ones = (1, 1, 1, 1)
+    words = model.crew_words(crews.lacking_one(7)[2])
+    for weights, a, b in ((ones, 1, 1), ((1000, 1000, 1000, 1000), 2, 1), ((0, 1, 3, 0), 1000, 999)):
+        script.mine(7, 7, words)
+        script.eliminate(weights, a, b)
+        script.review(ones)
+        standing = model.from_words(script.record[4:6])
+        for k in rng.sample(model.items(model.less(2 ** 126 - 1, standing)), min(10, 126 - model.size(standing))):
+            script.restore(k)
+        script.eliminate(ones, 1, 1)
+        script.review((1, 2, 3, 1))
+    for n, m, rows in ((8, 256, crews.full_table()[2][:8]), crews.full_table_own()):
+        script.mine(n, m, model.crew_words(rows))
+        script.eliminate(ones, 1, 1)
+        script.review(ones)
+    n, m, rows = crews.nested_chain(128, 256)
+    script.mine(n, m, model.crew_words(rows))
+    script.eliminate(ones, 2, 1)
+    script.review(ones)
+
+
+@target("replay")
+def replay(rng):
+    """Lists of strikes, restorations, eliminations and reviews, good and refused, with the two calls that read and damaged records in between; then
+    the lists of guards.py and the worst ones. The last line but one can't be read, so the strike after it is not made."""
+    script = Script()
+
+    def role(wanted, standing=None):
+        """A role of this set, strikable where R is given and a few of them show one; now and then any number."""
+        if rng.random() < 0.07:
+            return rng.choice((script.record[2], script.record[2] + 1, 128, 2 ** 63, 2 ** 64 - 1))
+        some = rng.sample(model.items(wanted), min(5, model.size(wanted)))
+        able = [k for k in some if standing is not None and model.strikable(crew, standing, k)]
+        return rng.choice(able or some or [rng.randrange(script.record[2] + 1)])
+
+    def edit_or_ask():
+        standing = model.from_words(script.record[4:6]) & model.everything(crew)
+        absent = model.less(model.everything(crew), standing)
+        kind = rng.random()
+        if kind < 0.28:
+            script.strike(role(standing, standing))
+        elif kind < 0.36:
+            script.strike(role(standing))
+        elif kind < 0.39:
+            script.strike(role(absent))
+        elif kind < 0.62 and not absent and rng.random() < 0.7:
+            script.strike(role(standing, standing))
+        elif kind < 0.62:
+            script.restore(role(absent))
+        elif kind < 0.65:
+            script.restore(role(standing))
+        elif kind < 0.74:
+            script.eliminate(weights_of(rng), *tolerance_of(rng))
+        elif kind < 0.85:
+            script.review(weights_of(rng))
+        elif kind < 0.92:
+            script.quality(weights_of(rng))
+        else:
+            u, p = rng.choice((rng.randrange(crew.n), crew.n - 1)), rng.choice((rng.randrange(crew.m), crew.m - 1))
+            script.may(u if rng.random() < 0.95 else crew.n, p if rng.random() < 0.95 else rng.choice((crew.m, 2 ** 64 - 1)))
+
+    script.mine(8, 8, model.crew_words(crews.lacking_one(8)[2]))
+    for n, m, rows in replay_crews(rng):
+        script.mine(n, m, model.crew_words(rows))
+        crew = model.crew_of(n, m, rows)
+        if crew is None:
+            continue
+        if crew.c < 64 and rng.random() < 0.5:
+            script.eliminate(weights_of(rng), *tolerance_of(rng))
+        for turn in range(rng.randrange(8, 17) if crew.c < 10 or n > 8 else rng.randrange(20, 50)):  # where roles cross, long lists
+            if crew.c > 126:
+                script.strike(role(2 ** crew.c - 1))
+            else:
+                edit_or_ask()
+            if rng.random() < 0.1:
+                place, value = damage_of(rng, script.record)
+                kept = script.record[place]
+                script.damage(place, value)
+                rng.choice((lambda: script.strike(rng.randrange(crew.c + 1)), lambda: script.restore(rng.randrange(crew.c + 1)),
+                            lambda: script.eliminate(weights_of(rng), *tolerance_of(rng)), lambda: script.review(weights_of(rng)),
+                            lambda: script.quality([1, 1, 1, 1]), lambda: script.may(0, 0)))()
+                script.damage(place, kept)
+            if rng.random() < 0.02:
+                n2, m2, words = rng.choice(((0, 3, []), (129, 3, [1, 0, 0, 0] * 129), (1, 257, [1, 0, 0, 0]), (1, 3, [8, 0, 0, 0]), (2, 3, [1, 0, 0, 0])))
+                script.mine(n2, m2, words)
+    guard_lists(script)
+    refused_weights(script)
+    worst_lists(script, rng)
+    stdin = "".join(script.stdin) + "s 000000000000000g\n" + "s %016x\n" % 0
+    assert script.calls >= 2000 and len(stdin) < 2 * 10 ** 6
+    return {"stdin": stdin.encode("ascii"), "stdout": ("".join(script.lines) + "unreadable\n").encode("ascii")}
+
+
+@target("listing_cases")
+def listing_cases(rng):
+    """What the lister prints for crew texts of every kind and at the limits of 01, and for damaged ones."""
+    lists = [(3, 3, [3, 6, 7]), (1, 1, [0]), (1, 1, [1]), (2, 3, [5, 5]), (3, 4, [0, 0, 0]), (1, 256, [2 ** 256 - 1]), (2, 255, [2 ** 254, 1]),
+             (2, 3, [3, 5]), (2, 5, [15, 23]), (4, 7, [55, 124, 78, 103]), crews.lacking_one(7), crews.lacking_one(8), crews.lacking_one(6, 70), crews.nested_chain(128, 256), crews.full_table(),
+             crews.antichain(30, 130), crews.random_rows(rng, 129, 3, 0.5)]
+    lists += [crews.random_sparse(rng, rng.randrange(2, 25), rng.randrange(3, 60)) for _ in range(14)]
+    lists += [crews.random_dense(rng, rng.randrange(2, 7), rng.randrange(3, 12)) for _ in range(14)]
+    lists += [crews.nested_groups(rng, rng.randrange(3, 14), rng.randrange(4, 90)) for _ in range(8)]
+    lists += [crews.duplicate_rows(rng, rng.randrange(3, 12), rng.randrange(2, 9)) for _ in range(4)]
+    lists += [crews.wide(rng, rng.randrange(65, 257), rng.randrange(4, 9), 4) for _ in range(4)]
+    good = [model.crew_text(n, m, rows) for n, m, rows in lists]
+    texts = good + damaged_texts()
+    texts += [(b"crew,0,3\n" + b"0" * size)[:size] for size in (16384, 16385)]
+    for _ in range(30):  # one byte altered, or all after it cut off
+        text = bytearray(rng.choice(good[:9]))
+        at = rng.randrange(len(text))
+        if rng.random() < 0.8:
+            text[at] = rng.choice(b"0123456789abcdef,\n ")
+        else:
+            del text[at:]
+        texts.append(bytes(text))
+    lines = [model.lister(text) for text in texts]
+    assert len(texts) >= 100 and {b"refused,%d\n" % code for code in (2, 3, 4, 10)} == {line for line in lines if line.startswith(b"refused")}
+    return {"stdin": b"".join(b"%04x\n%s" % (len(text), text) for text in texts), "stdout": b"".join(lines)}
+
+
+@target("lister")
+def lister(rng):
+    """Document 01's own sample, as it is printed there."""
+    text, printed = b"crew,3,3\n0,3\n1,6\n2,7\n", b"roles,2,10\n1,3,3,5,0\n2,6,6,6,0\n"
+    assert model.lister(text) == printed
+    return {"stdin": text, "stdout": printed}
 
 
 def main():

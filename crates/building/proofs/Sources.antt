@@ -15,6 +15,7 @@ use Rattle.sets.specs.Sets.{has, _∪_, single, subset, collect}
 use Rattle.sets.proofs.Truth.{either, ltb-iff, if-true}
 use Rattle.sets.proofs.Items.{same-set, item-below}
 use Rattle.sets.proofs.Order.{collect-iff, collect-same, proper-iff, subset-iff}
+use Rattle.sets.proofs.Words.{word-zero}
 use Rattle.model.specs.Lists.{setAt, rowsAt}
 use Rattle.model.specs.Candidates.{candidates, Listed}
 use Rattle.model.specs.Hierarchy.{Roles, candidateCount, permissionSet, authorisedUsers, immediateJuniors, directPermissions, directMembers}
@@ -22,7 +23,7 @@ use Rattle.model.specs.Indexes.{lower, rolesOfUser}
 use Rattle.model.specs.State.{State, rolesOf}
 use Rattle.model.proofs.Growing.{Growing, growing-place, listed-at}
 use Rattle.model.proofs.Candidates.{candidates-growing, candidates-table, proper-lower, row-candidate, candidate-bound}
-use Rattle.model.proofs.Lists.{length-rowsAt, getD-rowsAt, setAt-words, word-zero}
+use Rattle.model.proofs.Lists.{length-rowsAt, getD-rowsAt, setAt-words}
 use Rattle.model.proofs.Reading.{user-iff}
 use Rattle.model.proofs.Building.{absent-juniors, absent-permissions, absent-members}
 use Rattle.model.proofs.Record.{Limits}

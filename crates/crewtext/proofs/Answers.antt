@@ -12,10 +12,9 @@ use lib.Dec.{eqb, ltb}
 use lib.ListN.{length, length-append}
 use borrow.Author.Tests.{eq-eqb, ne-eqb, le-leb, lt-leb}
 use lib.Pow.{pow-pos}
-use Rattle.sets.specs.Truth.{isnt, if_then_else_}
 use Rattle.sets.specs.Sets.{subset, collect}
 use Rattle.sets.specs.Words.{word}
-use Rattle.sets.proofs.Truth.{same-test, ltb-iff, if-true, if-false}
+use Rattle.sets.proofs.Truth.{same-test, ltb-iff, if-true, if-false, if-passes, if-stops}
 use Rattle.sets.proofs.Items.{item-below}
 use Rattle.sets.proofs.Order.{subset-iff, subset-≤, collect-iff}
 use Rattle.sets.proofs.Below.{collect-below}
@@ -23,6 +22,7 @@ use Rattle.text.specs.Hexadecimal.{hexadecimalValue}
 use Rattle.text.specs.Stores.{putAt}
 use Rattle.crewtext.specs.Format.{digitsFor}
 use Rattle.crewtext.specs.declared.CrewRead.{CrewRead}
+use Rattle.crewtext.specs.declared.header.Header.{Header}
 use Rattle.crewtext.specs.declared.header.Header.the-variants.{Crew, Malformed, Beyond}
 use Rattle.crewtext.specs.declared.row.Row.{Row}
 use Rattle.crewtext.specs.declared.row.Row.the-variants.{Digits, Broken}
@@ -86,11 +86,11 @@ module _ (text : List ℕ) (m start u at : ℕ) (words : List ℕ) (f : Filling 
   pub fill-more : (digits s : ℕ) (after : List ℕ) → u < 128 → rowAt text (digitsFor m) u at ≡ Digits digits → s ≡ hexadecimalValue (digitsFor m) text digits → So (ltb s (2 ^ m))
       → after ≡ putAt words (4 * u) (word s 0 ∷ word s 1 ∷ word s 2 ∷ word s 3 ∷ [])
       → Filling text m start (u + 1) (digits + digitsFor m + 1) after
-  unfolding withRow if_then_else_
+  unfolding withRow
   fill-more digits s after h e es k w =
       record {
         rows = f .rows ++ (s ∷ []);
-        read = rw (add-one u, step (Digits digits) e, ← es, k) refl;
+        read = rw (add-one u, step (Digits digits) e, ← es) (if-true _ _ _ k);
         count = let n : length (f .rows ++ (s ∷ [])) ≡ length (f .rows) + 1 = length-append (f .rows) (s ∷ []) in omega (arith, f .count);
         held = w ∙ rw (f .held) (laid-more (f .rows) u s (f .count) h);
       }
@@ -105,10 +105,10 @@ module _ (text : List ℕ) (m start u at : ℕ) (words : List ℕ) (f : Filling 
 
   pub fill-bit : (n digits s : ℕ) (after : List ℕ) → u < n → rowAt text (digitsFor m) u at ≡ Digits digits → s ≡ hexadecimalValue (digitsFor m) text digits → ltb s (2 ^ m) ≡ false
       → (BadBit ≡ rowsGiven (rowsTo text m start n)) × Filled (rowsTo text m start n) after
-  unfolding withRow rowsGiven Filled if_then_else_
+  unfolding withRow rowsGiven Filled
   fill-bit n digits s after h e es b =
       let k : suc u + (n - suc u) ≡ n = omega arith in
-      let q : rowsTo text m start (suc u) ≡ badBit = rw (step (Digits digits) e, ← es, b) refl in
+      let q : rowsTo text m start (suc u) ≡ badBit = rw (step (Digits digits) e, ← es) (if-false _ _ _ b) in
       let r : rowsTo text m start n ≡ badBit = rw k at (bit-stays text m start u q (n - suc u)) in
       rw r (refl, tt)
 
@@ -159,23 +159,29 @@ module _ (text buffer : List ℕ) (n m : ℕ) where
 
 module _ (text buffer : List ℕ) where
   pub wrong-buffer : length buffer ≢ 512 → refusal 3 buffer ≡ readCrew text buffer
-  unfolding readCrew isnt if_then_else_
-  wrong-buffer h = rw (ne-eqb (length buffer) 512 h) refl
+  unfolding readCrew
+  wrong-buffer h = sym (if-stops _ _ _ (ne-eqb (length buffer) 512 h))
 
   module _ (b : length buffer ≡ 512) where
     pub too-long : 16384 < length text → refusal 10 buffer ≡ readCrew text buffer
-    unfolding readCrew isnt if_then_else_
-    too-long h = rw (eq-eqb (length buffer) 512 b, lt-leb (length text) 16384 h) refl
+    unfolding readCrew
+    too-long h = sym (if-passes _ _ _ (eq-eqb (length buffer) 512 b) ∙ if-stops _ _ _ (lt-leb (length text) 16384 h))
 
     module _ (l : length text ≤ 16384) where
+      by-header : {h : Header} → headerAt text ≡ h → afterHeader text buffer h ≡ readCrew text buffer
+      unfolding readCrew
+      by-header e =
+          sym
+          (if-passes _ _ _ (eq-eqb (length buffer) 512 b) ∙ if-passes _ _ _ (le-leb (length text) 16384 l) ∙ ap (afterHeader text buffer) e)
+
       pub by-crew : {n m at : ℕ} → headerAt text ≡ Crew n m at → afterRows text buffer n m (rowsTo text m at n) ≡ readCrew text buffer
-      unfolding readCrew afterHeader isnt if_then_else_
-      by-crew e = rw (eq-eqb (length buffer) 512 b, le-leb (length text) 16384 l, e) refl
+      unfolding afterHeader
+      by-crew e = by-header e
 
       pub by-malformed : headerAt text ≡ Malformed → refusal 10 buffer ≡ readCrew text buffer
-      unfolding readCrew afterHeader isnt if_then_else_
-      by-malformed e = rw (eq-eqb (length buffer) 512 b, le-leb (length text) 16384 l, e) refl
+      unfolding afterHeader
+      by-malformed e = by-header e
 
       pub by-beyond : headerAt text ≡ Beyond → refusal 2 buffer ≡ readCrew text buffer
-      unfolding readCrew afterHeader isnt if_then_else_
-      by-beyond e = rw (eq-eqb (length buffer) 512 b, le-leb (length text) 16384 l, e) refl
+      unfolding afterHeader
+      by-beyond e = by-header e

@@ -1,7 +1,7 @@
 -- The canonical text of a crew list is read back as that list, and a text that is accepted is the canonical text of the list read.
 -- Assumes nothing.
 use mathlib.Core.Path.{_≡_, refl, sym, _∙_, ap}
-use mathlib.Core.Bool.{Bool, true, false, So}
+use mathlib.Core.Bool.{So}
 use mathlib.Core.List.{List, [], _∷_, _++_}
 use Prim.Native.Nat.{ℕ, zero, suc, _+_, _-_, _*_, _/_, _%_, _^_, _≤_, _<_}
 use native.Mathlib.Nat.{not-suc-le-zero, add-zero, zero-add, lt-of-lt-of-le}
@@ -11,8 +11,7 @@ use lib.ListN.{length, getD, take, length-append, List·getD-append}
 use lib.Pow.{pow-mono}
 use lib.Seq.{take-suc, take-all, getD-append-seam, ext-getD}
 use borrow.Author.Tests.{eq-eqb, ne-eqb}
-use Rattle.sets.specs.Truth.{if_then_else_}
-use Rattle.sets.proofs.Truth.{all-is, all-of, ltb-iff, either, equal-or, below-suc, if-false}
+use Rattle.sets.proofs.Truth.{all-is, all-of, ltb-iff, either, equal-or, below-suc, if-true, if-false, if-cases}
 use Rattle.model.specs.Lists.{rowsAt}
 use Rattle.model.specs.State.{withinLimits, rowsWithin}
 use Rattle.model.proofs.Lists.{setAt-words, length-rowsAt, getD-rowsAt}
@@ -121,8 +120,8 @@ module _ (text : List ℕ) (m u at s : ℕ) (l : u < 1000) (b : s < 2 ^ m) (h : 
 
 add-read : (text : List ℕ) (m u : ℕ) (xs : List ℕ) (p digits s : ℕ) → rowAt text (digitsFor m) u p ≡ Digits digits → hexadecimalValue (digitsFor m) text digits ≡ s → So (ltb s (2 ^ m))
     → nextRow text m u (rowsRead xs p) ≡ rowsRead (xs ++ (s ∷ [])) (digits + digitsFor m + 1)
-unfolding nextRow withRow if_then_else_
-add-read text m u xs p digits s e f c = rw (e, f, c) refl
+unfolding nextRow withRow
+add-read text m u xs p digits s e f c = rw (e, f) (if-true _ _ _ c)
 
 -- the rows of a canonical text
 rows-read : (text : List ℕ) (m at : ℕ) (rows : List ℕ) (n : ℕ) → n ≤ length rows → n ≤ 128 → ((u : ℕ) → u < n → getD rows u 0 < 2 ^ m)
@@ -144,8 +143,8 @@ rows-read text m at rows (suc u) l k b h =
 
 whole-read : (text buffer : List ℕ) (n m : ℕ) (rows : List ℕ) (end : ℕ) → end ≡ length text
     → afterRows text buffer n m (rowsRead rows end) ≡ record { code = 0; n = n; m = m; words = laid rows }
-unfolding afterRows if_then_else_
-whole-read text buffer n m rows end e = rw (eq-eqb end (length text) e) refl
+unfolding afterRows
+whole-read text buffer n m rows end e = if-true _ _ _ (eq-eqb end (length text) e)
 
 -- the canonical text of a crew list within the limits reads back as that list
 pub read-back : (n m : ℕ) (rows buffer : List ℕ) → So (withinLimits n m) → length rows ≡ n → So (rowsWithin m rows) → length buffer ≡ 512
@@ -258,21 +257,22 @@ one-written text m at u xs p digits s f e es b =
 -- the ways to read one row more
 module _ (text : List ℕ) (m at u : ℕ) (rows : List ℕ) (end : ℕ) where
   by-bits : (xs : List ℕ) (p digits : ℕ) → RowsWritten text m at u xs p → rowAt text (digitsFor m) u p ≡ Digits digits
-      → (t : Bool) → ltb (hexadecimalValue (digitsFor m) text digits) (2 ^ m) ≡ t
-      → (if t then rowsRead (xs ++ (hexadecimalValue (digitsFor m) text digits ∷ [])) (digits + digitsFor m + 1) else badBit) ≡ rowsRead rows end
+      → So (ltb (hexadecimalValue (digitsFor m) text digits) (2 ^ m))
+      → rowsRead (xs ++ (hexadecimalValue (digitsFor m) text digits ∷ [])) (digits + digitsFor m + 1) ≡ rowsRead rows end
       → RowsWritten text m at (suc u) rows end
-  unfolding if_then_else_
-  by-bits xs p digits f e true b k =
+  by-bits xs p digits f e b k =
       let g = one-written text m at u xs p digits (hexadecimalValue (digitsFor m) text digits) f e refl (ltb-iff (hexadecimalValue (digitsFor m) text digits) (2 ^ m) .0 b) in
       let v : xs ++ (hexadecimalValue (digitsFor m) text digits ∷ []) ≡ rows = cc in
       let w : digits + digitsFor m + 1 ≡ end = cc in
       rw (v, w) at g
-  by-bits xs p digits f e false b k = let z : _≡_ {A = ℕ} 0 1 = cc in absurd (omega arith)
 
   by-row : (xs : List ℕ) (p : ℕ) → RowsWritten text m at u xs p → (o : Row) → rowAt text (digitsFor m) u p ≡ o → withRow text m xs o ≡ rowsRead rows end
       → RowsWritten text m at (suc u) rows end
   unfolding withRow
-  by-row xs p f (Digits digits) e k = by-bits xs p digits f e (ltb (hexadecimalValue (digitsFor m) text digits) (2 ^ m)) refl k
+  by-row xs p f (Digits digits) e k =
+      let s = hexadecimalValue (digitsFor m) text digits in
+      if-cases (ltb s (2 ^ m)) (rowsRead (xs ++ (s ∷ [])) (digits + digitsFor m + 1)) badBit (rowsRead rows end) k (by-bits xs p digits f e)
+      (λ t. λ (g : badBit ≡ rowsRead rows end). let z : _≡_ {A = ℕ} 0 1 = cc in absurd (omega arith))
   by-row xs p f Broken e k = let z : _≡_ {A = ℕ} 0 1 = cc in absurd (omega arith)
 
   by-rows : (o : Read) → ((xs : List ℕ) (p : ℕ) → o ≡ rowsRead xs p → RowsWritten text m at u xs p) → nextRow text m u o ≡ rowsRead rows end

@@ -1,14 +1,14 @@
 -- What the form of a line says: the fields, one after another.
 -- Assumes nothing.
 use mathlib.Core.Path.{_≡_, refl, sym, _∙_, ap}
-use mathlib.Core.Bool.{Bool, true, false, So}
+use mathlib.Core.Bool.{So}
 use mathlib.Core.List.{List}
 use Prim.Native.Nat.{ℕ, _+_, _≤_}
 use native.Mathlib.Omega.{arith}
 use lib.Dec.{eqb}
 use lib.ListN.{length}
-use Rattle.sets.specs.Truth.{_and_, if_then_else_}
-use Rattle.sets.proofs.Truth.{and-iff, eqb-iff}
+use Rattle.sets.specs.Truth.{_and_}
+use Rattle.sets.proofs.Truth.{and-iff, eqb-iff, if-cases}
 use Rattle.model.specs.State.{withinLimits}
 use Rattle.text.specs.declared.decimal.Decimal.{Decimal}
 use Rattle.text.specs.declared.decimal.Decimal.the-variants.{Number, Nothing}
@@ -36,9 +36,11 @@ pub record HeaderForm (text : List ℕ) (n m at : ℕ) : Type 0 where
 
 module _ (text : List ℕ) (n m at : ℕ) (w : So (holds text 0 crewWord)) where
   header-limits : (v next k end : ℕ) → decimalAt text 5 ≡ Number v next → So (holds text next comma) → decimalAt text (next + 1) ≡ Number k end → So (holds text end lineEnd)
-      → (t : Bool) → withinLimits v k ≡ t → (if t then Crew v k (end + 1) else Beyond) ≡ Crew n m at → HeaderForm text n m at
-  unfolding if_then_else_
-  header-limits v next k end a b c d true t e =
+      → limited v k (end + 1) ≡ Crew n m at → HeaderForm text n m at
+  unfolding limited
+  header-limits v next k end a b c d e =
+      if-cases (withinLimits v k) (Crew v k (end + 1)) Beyond (Crew n m at) e
+      (λ t. λ (f : Crew v k (end + 1) ≡ Crew n m at).
       let p : v ≡ n = cc in
       let q : k ≡ m = cc in
       let r : end + 1 ≡ at = cc in
@@ -52,38 +54,30 @@ module _ (text : List ℕ) (n m at : ℕ) (w : So (holds text 0 crewWord)) where
         end-there = d;
         place = sym r;
         limits = rw (p, q) at t;
-      }
-  header-limits v next k end a b c d false t e = let z : _≡_ {A = ℕ} 0 1 = cc in absurd (omega arith)
-
-  header-line : (v next k end : ℕ) → decimalAt text 5 ≡ Number v next → So (holds text next comma) → decimalAt text (next + 1) ≡ Number k end
-      → (t : Bool) → holds text end lineEnd ≡ t → (if t then limited v k (end + 1) else Malformed) ≡ Crew n m at → HeaderForm text n m at
-  unfolding if_then_else_ limited
-  header-line v next k end a b c true t e = header-limits v next k end a b c t (withinLimits v k) refl e
-  header-line v next k end a b c false t e = let z : _≡_ {A = ℕ} 0 1 = cc in absurd (omega arith)
+      })
+      (λ t. λ (f : Beyond ≡ Crew n m at). let z : _≡_ {A = ℕ} 0 1 = cc in absurd (omega arith))
 
   header-second : (v next : ℕ) → decimalAt text 5 ≡ Number v next → So (holds text next comma) → (o : Decimal) → decimalAt text (next + 1) ≡ o → headerEnd text v o ≡ Crew n m at → HeaderForm text n m at
   unfolding headerEnd
-  header-second v next a b (Number k end) c e = header-line v next k end a b c (holds text end lineEnd) refl e
+  header-second v next a b (Number k end) c e =
+      if-cases (holds text end lineEnd) (limited v k (end + 1)) Malformed (Crew n m at) e (header-limits v next k end a b c)
+      (λ t. λ (f : Malformed ≡ Crew n m at). let z : _≡_ {A = ℕ} 0 1 = cc in absurd (omega arith))
   header-second v next a b Nothing c e = let z : _≡_ {A = ℕ} 0 1 = cc in absurd (omega arith)
-
-  header-parted : (v next : ℕ) → decimalAt text 5 ≡ Number v next → (t : Bool) → holds text next comma ≡ t → (if t then headerEnd text v (decimalAt text (next + 1)) else Malformed) ≡ Crew n m at → HeaderForm text n m at
-  unfolding if_then_else_
-  header-parted v next a true b e = header-second v next a b (decimalAt text (next + 1)) refl e
-  header-parted v next a false b e = let z : _≡_ {A = ℕ} 0 1 = cc in absurd (omega arith)
 
   header-first : (o : Decimal) → decimalAt text 5 ≡ o → headerRest text o ≡ Crew n m at → HeaderForm text n m at
   unfolding headerRest
-  header-first (Number v next) a e = header-parted v next a (holds text next comma) refl e
+  header-first (Number v next) a e =
+      if-cases (holds text next comma) (headerEnd text v (decimalAt text (next + 1))) Malformed (Crew n m at) e
+      (λ b. header-second v next a b (decimalAt text (next + 1)) refl)
+      (λ t. λ (f : Malformed ≡ Crew n m at). let z : _≡_ {A = ℕ} 0 1 = cc in absurd (omega arith))
   header-first Nothing a e = let z : _≡_ {A = ℕ} 0 1 = cc in absurd (omega arith)
-
-header-start : (text : List ℕ) (n m at : ℕ) (t : Bool) → holds text 0 crewWord ≡ t → (if t then headerRest text (decimalAt text 5) else Malformed) ≡ Crew n m at → HeaderForm text n m at
-unfolding if_then_else_
-header-start text n m at true w e = header-first text n m at w (decimalAt text 5) refl e
-header-start text n m at false w e = let z : _≡_ {A = ℕ} 0 1 = cc in absurd (omega arith)
 
 pub header-form : (text : List ℕ) (n m at : ℕ) → headerAt text ≡ Crew n m at → HeaderForm text n m at
 unfolding headerAt
-header-form text n m at e = header-start text n m at (holds text 0 crewWord) refl e
+header-form text n m at e =
+    if-cases (holds text 0 crewWord) (headerRest text (decimalAt text 5)) Malformed (Crew n m at) e
+    (λ w. header-first text n m at w (decimalAt text 5) refl)
+    (λ t. λ (f : Malformed ≡ Crew n m at). let z : _≡_ {A = ℕ} 0 1 = cc in absurd (omega arith))
 
 -- ---- a row
 
@@ -100,25 +94,23 @@ unfolding rowRest
 row-none text d u digits e = let z : _≡_ {A = ℕ} 0 1 = cc in omega arith
 
 row-some : (text : List ℕ) (d u at digits v next : ℕ) → decimalAt text at ≡ Number v next → rowRest text d u (Number v next) ≡ Digits digits → RowForm text d u at digits
-unfolding rowRest if_then_else_
-row-some text d u at digits v next a e = go (eqb v u and holds text next comma and hexadecimalAt d text (next + 1) and holds text (next + 1 + d) lineEnd) refl e
-  where
-    go : (t : Bool) → (eqb v u and holds text next comma and hexadecimalAt d text (next + 1) and holds text (next + 1 + d) lineEnd) ≡ t
-        → (if t then Digits (next + 1) else Broken) ≡ Digits digits → RowForm text d u at digits
-    go true k e =
-        let p = and-iff (eqb v u and holds text next comma and hexadecimalAt d text (next + 1)) (holds text (next + 1 + d) lineEnd) .0 k in
-        let q = and-iff (eqb v u and holds text next comma) (hexadecimalAt d text (next + 1)) .0 (p .0) in
-        let r = and-iff (eqb v u) (holds text next comma) .0 (q .0) in
-        let s : v ≡ u = eqb-iff v u .0 (r .0) in
-        record {
-          next = next;
-          number = a ∙ ap (λ (x : ℕ). Number x next) s;
-          place = let f : next + 1 ≡ digits = cc in sym f;
-          comma-there = r .1;
-          digits-there = q .1;
-          end-there = p .1;
-        }
-    go false k e = let z : _≡_ {A = ℕ} 0 1 = cc in absurd (omega arith)
+unfolding rowRest
+row-some text d u at digits v next a e =
+    if-cases (eqb v u and holds text next comma and hexadecimalAt d text (next + 1) and holds text (next + 1 + d) lineEnd) (Digits (next + 1)) Broken (Digits digits) e
+    (λ k. λ (f : Digits (next + 1) ≡ Digits digits).
+    let p = and-iff (eqb v u and holds text next comma and hexadecimalAt d text (next + 1)) (holds text (next + 1 + d) lineEnd) .0 k in
+    let q = and-iff (eqb v u and holds text next comma) (hexadecimalAt d text (next + 1)) .0 (p .0) in
+    let r = and-iff (eqb v u) (holds text next comma) .0 (q .0) in
+    let s : v ≡ u = eqb-iff v u .0 (r .0) in
+    record {
+      next = next;
+      number = a ∙ ap (λ (x : ℕ). Number x next) s;
+      place = let g : next + 1 ≡ digits = cc in sym g;
+      comma-there = r .1;
+      digits-there = q .1;
+      end-there = p .1;
+    })
+    (λ k. λ (f : Broken ≡ Digits digits). let z : _≡_ {A = ℕ} 0 1 = cc in absurd (omega arith))
 
 pub row-form : (text : List ℕ) (d u at digits : ℕ) → rowAt text d u at ≡ Digits digits → RowForm text d u at digits
 unfolding rowAt

@@ -8,8 +8,9 @@ use lib.ListN.{length, getD, set, length-append, replicate, length-replicate, ge
 use lib.Seq.{ext-getD, getD-set-same, getD-set-other, getD-append-seam}
 use Rattle.sets.specs.Words.{word}
 use Rattle.sets.proofs.Truth.{below-suc, either}
+use Rattle.sets.proofs.Words.{word-zero}
 use Rattle.model.specs.Record.{regionWord}
-use Rattle.model.proofs.Lists.{length-tabulate, getD-tabulate, tabulate-is, word-zero}
+use Rattle.model.proofs.Lists.{length-tabulate, getD-tabulate, tabulate-is}
 use Rattle.text.specs.Stores.{putAt}
 use Rattle.text.proofs.Stores.{length-putAt, putAt-below, putAt-above, putAt-in}
 use Rattle.crewtext.specs.Reader.{laid}

@@ -1,14 +1,16 @@
 -- The header and one row: each way through the definition.
 -- Assumes nothing.
-use mathlib.Core.Path.{_≡_, refl, sym, _∙_}
+use mathlib.Core.Path.{_≡_, refl, sym, _∙_, ap}
 use mathlib.Core.Bool.{Bool, true, false, So, not}
 use mathlib.Core.List.{List}
 use mathlib.Core.Logic.{_≢_}
 use Prim.Native.Nat.{ℕ, _+_, _-_, _≤_}
-use borrow.Author.Tests.{not-true, not-false, eq-eqb, ne-eqb}
+use lib.Dec.{eqb}
+use borrow.Author.Tests.{not-true, not-false}
 use Rattle.sets.specs.Truth.{_and_, if_then_else_}
-use Rattle.sets.proofs.Truth.{not-So, reflect, if-true, if-false}
+use Rattle.sets.proofs.Truth.{not-So, So-not, reflect, if-true, if-false}
 use Rattle.model.specs.State.{withinLimits}
+use Rattle.text.specs.declared.decimal.Decimal.{Decimal}
 use Rattle.text.specs.declared.decimal.Decimal.the-variants.{Number, Nothing}
 use Rattle.text.specs.Fixed.{holds, comma, lineEnd}
 use Rattle.text.specs.Decimal.{decimalAt}
@@ -48,29 +50,37 @@ limits-kept n m next a b c d = sym (if-true (withinLimits n m) (Crew n m next) B
 
 module _ (text : List ℕ) where
   pub header-word : holds text 0 crewWord ≡ false → Malformed ≡ headerAt text
-  unfolding headerAt if_then_else_
-  header-word a = rw a refl
+  unfolding headerAt
+  header-word a = sym (if-false _ _ _ a)
 
   pub header-users : holds text 0 crewWord ≡ true → decimalAt text 5 ≡ Nothing → Malformed ≡ headerAt text
-  unfolding headerAt headerRest if_then_else_
-  header-users a b = rw (a, b) refl
+  unfolding headerAt headerRest
+  header-users a b = sym (if-true _ _ _ a ∙ ap (headerRest text) b)
 
   module _ {n next : ℕ} (a : holds text 0 crewWord ≡ true) (b : decimalAt text 5 ≡ Number n next) where
+    header-first : headerAt text ≡ headerRest text (Number n next)
+    unfolding headerAt
+    header-first = if-true _ _ _ a ∙ ap (headerRest text) b
+
     pub header-comma : holds text next comma ≡ false → Malformed ≡ headerAt text
-    unfolding headerAt headerRest if_then_else_
-    header-comma c = rw (a, b, c) refl
+    unfolding headerRest
+    header-comma c = sym (header-first ∙ if-false _ _ _ c)
+
+    header-second : {o : Decimal} → holds text next comma ≡ true → decimalAt text (next + 1) ≡ o → headerAt text ≡ headerEnd text n o
+    unfolding headerRest
+    header-second c d = header-first ∙ if-true _ _ _ c ∙ ap (headerEnd text n) d
 
     pub header-permissions : holds text next comma ≡ true → decimalAt text (next + 1) ≡ Nothing → Malformed ≡ headerAt text
-    unfolding headerAt headerRest headerEnd if_then_else_
-    header-permissions c d = rw (a, b, c, d) refl
+    unfolding headerEnd
+    header-permissions c d = sym (header-second c d)
 
     pub header-end : {m end : ℕ} → holds text next comma ≡ true → decimalAt text (next + 1) ≡ Number m end → holds text end lineEnd ≡ false → Malformed ≡ headerAt text
-    unfolding headerAt headerRest headerEnd if_then_else_
-    header-end c d e = rw (a, b, c, d, e) refl
+    unfolding headerEnd
+    header-end c d e = sym (header-second c d ∙ if-false _ _ _ e)
 
     pub header-whole : {m end : ℕ} → holds text next comma ≡ true → decimalAt text (next + 1) ≡ Number m end → holds text end lineEnd ≡ true → limited n m (end + 1) ≡ headerAt text
-    unfolding headerAt headerRest headerEnd if_then_else_
-    header-whole c d e = rw (a, b, c, d, e) refl
+    unfolding headerEnd
+    header-whole c d e = sym (header-second c d ∙ if-true _ _ _ e)
 
 -- ---- a row, from the front
 
@@ -80,23 +90,35 @@ module _ (text : List ℕ) (d u at : ℕ) where
   row-number a = rw a refl
 
   module _ {v next : ℕ} (a : decimalAt text at ≡ Number v next) where
+    -- the test of the whole line
+    abbrev form : Bool
+    form = eqb v u and holds text next comma and hexadecimalAt d text (next + 1) and holds text (next + 1 + d) lineEnd
+
+    row-by : rowAt text d u at ≡ (if form then Digits (next + 1) else Broken)
+    unfolding rowAt rowRest
+    row-by = ap (rowRest text d u) a
+
+    row-fails : (v ≡ u → So (holds text next comma) → So (hexadecimalAt d text (next + 1)) → So (holds text (next + 1 + d) lineEnd) → ⊥) → Broken ≡ rowAt text d u at
+    row-fails h =
+        let no : form ≡ false =
+        not-So form
+        (λ s.
+        let k : (((v ≡ u) × So (holds text next comma)) × So (hexadecimalAt d text (next + 1))) × So (holds text (next + 1 + d) lineEnd) = simp reflect at s in
+        h (k .0 .0 .0) (k .0 .0 .1) (k .0 .1) (k .1)) in
+        sym (row-by ∙ if-false _ _ _ no)
+
     pub row-other : v ≢ u → Broken ≡ rowAt text d u at
-    unfolding rowAt rowRest if_then_else_ _and_
-    row-other b = rw (a, ne-eqb v u b) refl
+    row-other b = row-fails (λ e _ _ _. b e)
 
     module _ (b : v ≡ u) where
       pub row-comma : holds text next comma ≡ false → Broken ≡ rowAt text d u at
-      unfolding rowAt rowRest if_then_else_ _and_
-      row-comma c = rw (a, eq-eqb v u b, c) refl
+      row-comma c = row-fails (λ _ s _ _. So-not c s)
 
       pub row-digits : holds text next comma ≡ true → hexadecimalAt d text (next + 1) ≡ false → Broken ≡ rowAt text d u at
-      unfolding rowAt rowRest if_then_else_ _and_
-      row-digits c e = rw (a, eq-eqb v u b, c, e) refl
+      row-digits c e = row-fails (λ _ _ s _. So-not e s)
 
       pub row-end : holds text next comma ≡ true → hexadecimalAt d text (next + 1) ≡ true → holds text (next + 1 + d) lineEnd ≡ false → Broken ≡ rowAt text d u at
-      unfolding rowAt rowRest if_then_else_ _and_
-      row-end c e f = rw (a, eq-eqb v u b, c, e, f) refl
+      row-end c e f = row-fails (λ _ _ _ s. So-not f s)
 
       pub row-whole : holds text next comma ≡ true → hexadecimalAt d text (next + 1) ≡ true → holds text (next + 1 + d) lineEnd ≡ true → Digits (next + 1) ≡ rowAt text d u at
-      unfolding rowAt rowRest if_then_else_ _and_
-      row-whole c e f = rw (a, eq-eqb v u b, c, e, f) refl
+      row-whole c e f = let ok : So form = simp reflect (((b, c), e), f) in sym (row-by ∙ if-true _ _ _ ok)

@@ -84,21 +84,27 @@ module _ (st : State) (lim : Limits st) (ws : List ℕ) (e : ws ≡ built st) wh
   pub few : getD ws 2 0 ≤ 128
   few = rw count at (lim .candidates-most)
 
-  standing-read : setAt 2 ws 4 ≡ st .standing
+  pub standing-read : setAt 2 ws 4 ≡ st .standing
   standing-read = ap (λ (l : List ℕ). setAt 2 l 4) e ∙ read-standing st lim
 
   juniors-held : Region 2 juniorsStart (immediateJuniors (rolesOf st) (st .standing)) ws
   juniors-held i j li lj =
       ap (λ (l : List ℕ). getD l (juniorsStart + 2 * i + j) 0) e ∙ built-word st (juniorsStart + 2 * i + j) (omega arith) ∙ word-juniors st i j li lj
 
-  seniors-read : (c : ℕ) → candidateCount (rolesOf st) ≡ c → (k : ℕ)
+  pub seniors-read : (c : ℕ) → candidateCount (rolesOf st) ≡ c → (k : ℕ)
       → collect c (λ i. has (setAt 2 (take 256 (drop juniorsStart ws)) (2 * i)) k) ≡ collect (candidateCount (rolesOf st)) (λ i. has (immediateJuniors (rolesOf st) (st .standing) i) k)
   seniors-read c same k =
       seniors-same (rolesOf st) (st .standing) k c (take 256 (drop juniorsStart ws)) same
       (region-holds 2 juniorsStart c 256 (immediateJuniors (rolesOf st) (st .standing)) ws refl (rw same at (lim .candidates-most)) (λ i l. juniors-small st lim i) juniors-held)
 
-  juniors-read : (k : ℕ) → k < 128 → setAt 2 ws (juniorsStart + 2 * k) ≡ immediateJuniors (rolesOf st) (st .standing) k
+  pub juniors-read : (k : ℕ) → k < 128 → setAt 2 ws (juniorsStart + 2 * k) ≡ immediateJuniors (rolesOf st) (st .standing) k
   juniors-read k small = region-read 2 juniorsStart k (immediateJuniors (rolesOf st) (st .standing)) ws small (juniors-small st lim k) juniors-held
+
+-- the standing set with k put into it
+put-standing : (st : State) → Limits st → (ws : List ℕ) → ws ≡ built st → (k : ℕ) → k < 128 → (r R : ℕ) → r ≡ setAt 2 ws 4
+    → R ≡ (if ltb k 128 then r ∪ single k else r) → R ≡ st .standing ∪ single k
+put-standing st lim ws e k small r R er eR =
+    eR ∙ if-true (ltb k 128) (r ∪ single k) r (ltb-iff k 128 .1 small) ∙ ap (λ (z : ℕ). z ∪ single k) (er ∙ standing-read st lim ws e)
 
 -- ---- the two changes
 
@@ -122,21 +128,37 @@ module _ (st : State) (lim : Limits st) (roles ws low users after : List ℕ) (e
       (et ∙ juniors-read st lim ws e k small) ey in
       changed st roles lim (count st lim ws e) (rw new (∖-lt (candidateCount ρ) Q (single k) (lim .standing-below))) e ix (rw new d) ∙ ap (λ (z : ℕ). built (standingNow st z)) new
 
-  pub put-back : (r R s x t y : ℕ) → r ≡ setAt 2 ws 4 → R ≡ (if ltb k 128 then r ∪ single k else r)
-      → ((ρ : Roles) → Numbered ρ → candidateCount ρ ≡ getD ws 2 0 → Holds 2 (candidateCount ρ) (lower ρ) low → R < 2 ^ candidateCount ρ → s ≡ collect (candidateCount ρ) (λ i. has (immediateJuniors ρ R i) k))
-      → ((ρ : Roles) → Numbered ρ → Holds 2 (candidateCount ρ) (lower ρ) low → R < 2 ^ candidateCount ρ → t ≡ immediateJuniors ρ R k)
+  pub put-at : (r R s x t y : ℕ) → r ≡ setAt 2 ws 4 → R ≡ (if ltb k 128 then r ∪ single k else r)
       → x ≡ (if ltb k 128 then s ∪ single k else s) → y ≡ (if ltb k 128 then t ∪ single k else t)
       → Changed ws low users after (getD ws 2 0) R x y → k < candidateCount (rolesOf st) → has (st .standing) k ≡ false
-      → after ≡ built (standingNow st (st .standing ∪ single k))
-  put-back r R s x t y er eR es et ex ey changed lk absent =
+      → s ≡ collect (candidateCount (rolesOf st)) (λ i. has (immediateJuniors (rolesOf st) (st .standing ∪ single k) i) k)
+      → t ≡ immediateJuniors (rolesOf st) (st .standing ∪ single k) k → after ≡ built (standingNow st (st .standing ∪ single k))
+  put-at r R s x t y er eR ex ey changed lk absent es et =
       let ρ = rolesOf st in
       let Q = st .standing in
-      let n = numbered st lim in
-      let new : R ≡ Q ∪ single k = eR ∙ if-true (ltb k 128) (r ∪ single k) r (ltb-iff k 128 .1 small) ∙ ap (λ (z : ℕ). z ∪ single k) (er ∙ standing-read st lim ws e) in
+      let new = put-standing st lim ws e k small r R er eR in
       let o : Ordered ρ R = rw new (restored-ordered ρ Q k lk (limits-ordered st lim)) in
       let less : R ∖ single k ≡ Q = ap (λ (z : ℕ). z ∖ single k) new ∙ with-without Q k absent in
-      let d = differ-back ρ R k o (rw new (has-with Q k)) s x t y small (es ρ n (count st lim ws e) (ix .low-ones) (o .below)) ex (et ρ n (ix .low-ones) (o .below)) ey in
+      let d = differ-back ρ R k o (rw new (has-with Q k)) s x t y small (rw new es) ex (rw new et) ey in
       changed st roles lim (count st lim ws e) (o .below) e ix (rw less at d) ∙ ap (λ (z : ℕ). built (standingNow st z)) new
+
+-- the neighbours of a role that is put back, found from the index
+module _ (st : State) (lim : Limits st) (ws low : List ℕ) (e : ws ≡ built st) (held : Holds 2 (candidateCount (rolesOf st)) (lower (rolesOf st)) low)
+    (k : ℕ) (small : k < 128) (r R : ℕ) (er : r ≡ setAt 2 ws 4) (eR : R ≡ (if ltb k 128 then r ∪ single k else r)) (lk : k < candidateCount (rolesOf st)) where
+  put-below : R < 2 ^ candidateCount (rolesOf st)
+  put-below =
+      let c = candidateCount (rolesOf st) in
+      rw (put-standing st lim ws e k small r R er eR) (∪-lt c (st .standing) (single k) (lim .standing-below) (single-lt c k lk))
+
+  pub put-seniors : (s : ℕ)
+      → ((ρ : Roles) → Numbered ρ → candidateCount ρ ≡ getD ws 2 0 → Holds 2 (candidateCount ρ) (lower ρ) low → R < 2 ^ candidateCount ρ → s ≡ collect (candidateCount ρ) (λ i. has (immediateJuniors ρ R i) k))
+      → s ≡ collect (candidateCount (rolesOf st)) (λ i. has (immediateJuniors (rolesOf st) (st .standing ∪ single k) i) k)
+  put-seniors s es = rw (put-standing st lim ws e k small r R er eR) at (es (rolesOf st) (numbered st lim) (count st lim ws e) held put-below)
+
+  pub put-juniors : (t : ℕ)
+      → ((ρ : Roles) → Numbered ρ → Holds 2 (candidateCount ρ) (lower ρ) low → R < 2 ^ candidateCount ρ → t ≡ immediateJuniors ρ R k)
+      → t ≡ immediateJuniors (rolesOf st) (st .standing ∪ single k) k
+  put-juniors t et = rw (put-standing st lim ws e k small r R er eR) at (et (rolesOf st) (numbered st lim) held put-below)
 
 -- ---- the neighbours themselves
 

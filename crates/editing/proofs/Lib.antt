@@ -2,3 +2,4 @@ pub mod Regions
 pub mod Partway
 pub mod Changing
 pub mod Seeking
+pub mod Removing

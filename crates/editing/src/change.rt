@@ -4,8 +4,9 @@ ghost use mathlib.Core.Bool.{false, So};
 ghost use mathlib.Core.List.{List};
 ghost use Prim.Native.Nat.{ℕ, _≤_, _<_};
 ghost use lib.ListN.{length, getD};
-ghost use Rattle.sets.specs.Sets.{has, _∪_, _∖_, single};
-ghost use Rattle.model.specs.Hierarchy.{candidateCount};
+ghost use Rattle.sets.specs.Held.{set128};
+ghost use Rattle.sets.specs.Sets.{has, _∪_, _∖_, single, collect};
+ghost use Rattle.model.specs.Hierarchy.{candidateCount, immediateJuniors};
 ghost use Rattle.model.specs.Record.{recordLength, built};
 ghost use Rattle.model.specs.State.{State, rolesOf, standingNow};
 ghost use Rattle.model.proofs.Record.{Limits};
@@ -18,6 +19,7 @@ use hierarchy::column;
 use hierarchy::juniors_of;
 use records::JUNIORS;
 use records::LENGTH;
+use sets::Set128;
 use tables::load128;
 use tables::store128;
 
@@ -36,6 +38,26 @@ pub fn take_out(rec: &mut [u64], low: &[u64], users: &[u64], k: usize)
     rewrite_lowers(rec, users, c, left, juniors.insert(k));
 }
 
+// Puts the absent candidate k back, whose immediate seniors and juniors will be these.
+pub fn put_back_at(
+    rec: &mut [u64],
+    low: &[u64],
+    users: &[u64],
+    k: usize,
+    seniors: Set128,
+    juniors: Set128,
+)
+    requires { ⌜ (length (now rec) ≡ recordLength) × (length (now low) ≡ 256) × (length (now users) ≡ 256) × (k < 128) × (getD (now rec) 2 0 ≤ 128) ⌝ }
+    ensures { λ r. ⌜ ((st : State) (roles : List ℕ) → Limits st → now (rec .entry) ≡ built st → Indexed st (now (low .entry)) roles (now (users .entry)) → k < candidateCount (rolesOf st) → has (st .standing) k ≡ false → set128 seniors ≡ collect (candidateCount (rolesOf st)) (λ i. has (immediateJuniors (rolesOf st) (st .standing ∪ single k) i) k) → set128 juniors ≡ immediateJuniors (rolesOf st) (st .standing ∪ single k) k → now (rec .exit) ≡ built (standingNow st (st .standing ∪ single k))) ⌝ }
+{
+    let c = rec[2] as usize;
+    let standing = load128(rec, STANDING);
+    let more = standing.insert(k);
+    store128(rec, STANDING, more);
+    rewrite_uppers(rec, low, more, seniors.insert(k));
+    rewrite_lowers(rec, users, c, more, juniors.insert(k));
+}
+
 // Puts the absent candidate k back. Its neighbours are those of the building in which it stands again, so they are computed for that.
 pub fn put_back(rec: &mut [u64], low: &[u64], users: &[u64], k: usize)
     requires { ⌜ (length (now rec) ≡ recordLength) × (length (now low) ≡ 256) × (length (now users) ≡ 256) × (k < 128) × (getD (now rec) 2 0 ≤ 128) ⌝ }
@@ -46,7 +68,5 @@ pub fn put_back(rec: &mut [u64], low: &[u64], users: &[u64], k: usize)
     let more = standing.insert(k);
     let seniors = seniors_of(low, c, more, k);
     let juniors = juniors_of(low, more, k);
-    store128(rec, STANDING, more);
-    rewrite_uppers(rec, low, more, seniors.insert(k));
-    rewrite_lowers(rec, users, c, more, juniors.insert(k));
+    put_back_at(rec, low, users, k, seniors, juniors);
 }

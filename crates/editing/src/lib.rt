@@ -2,9 +2,15 @@
 // juniors are written anew, and nothing else.
 mod around;
 mod change;
+mod removal;
 mod rows;
 mod seniors;
 
 pub use around::neighbours;
 pub use change::put_back;
+pub use change::put_back_at;
 pub use change::take_out;
+pub use removal::can_strike;
+pub use removal::removable;
+pub use rows::STANDING;
+pub use seniors::seniors_of;

@@ -1,6 +1,6 @@
 -- One row's intersections with the sets of a table.
 -- Assumes nothing.
-use mathlib.Core.Path.{_≡_, refl, sym, _∙_, ap}
+use mathlib.Core.Path.{_≡_, sym, _∙_, ap}
 use mathlib.Core.Logic.{_≢_}
 use mathlib.Core.Bool.{Bool, true, false, _||_}
 use mathlib.Core.List.{List}
@@ -12,6 +12,7 @@ use lib.ListN.{length, getD}
 use Rattle.sets.specs.Sets.{_∩_}
 use Rattle.sets.specs.Truth.{_or_}
 use Rattle.sets.proofs.Truth.{if-true, if-false}
+use Rattle.sets.proofs.Written.{either-test}
 use Rattle.model.specs.Candidates.{place, admit, addRow, Listed}
 use Rattle.model.specs.Lists.{setAt, rowsAt}
 use Rattle.model.proofs.Lists.{length-rowsAt}
@@ -21,17 +22,13 @@ use Rattle.mining.specs.Mining.{Framed, Holds, met}
 use Rattle.mining.proofs.Rows.{row-at}
 use Rattle.mining.proofs.Placing.{holds-equal}
 
-either-of : (a b d : Bool) → (a || b || d) ≡ (a or b or d)
-unfolding _or_
-either-of true b d = refl
-either-of false true d = refl
-either-of false false d = refl
-
 -- y is the intersection, and a, b and d the code's three tests of it
 module _ {a b d : Bool} (r x : ℕ) {y : ℕ} (e : y ≡ r ∩ x) (ea : a ≡ eqb y 0) (eb : b ≡ eqb y r) (ed : d ≡ eqb y x) where
   test : (a || b || d) ≡ idle r x
   unfolding idle
-  test = rw (ea, eb, ed, e) (either-of (eqb (r ∩ x) 0) (eqb (r ∩ x) r) (eqb (r ∩ x) x))
+  test =
+      let m = r ∩ x in
+      rw (ea, eb, ed, e) (either-test (eqb m 0 || eqb m r) (eqb m x) ∙ ap (λ (t : Bool). t or eqb m x) (either-test (eqb m 0) (eqb m r)))
 
   pub met-idle : (a || b || d) ≡ true → (xs : List ℕ) → xs ≡ met r x xs
   unfolding met

@@ -7,10 +7,10 @@ use native.Mathlib.Omega.{arith}
 use lib.ListN.{length, getD, replicate, length-replicate, getD-replicate, List·getD-eq-default}
 use Rattle.sets.specs.Words.{word}
 use Rattle.sets.proofs.Truth.{either}
-use Rattle.sets.proofs.Words.{Words, word-value}
+use Rattle.sets.proofs.Words.{Words, word-value, word-zero}
 use Rattle.model.specs.Lists.{tabulate, elems, setAt, rowsAt}
 use Rattle.model.specs.Record.{regionWord}
-use Rattle.model.proofs.Lists.{tabulate-is, length-elems, getD-elems, length-rowsAt, word-zero}
+use Rattle.model.proofs.Lists.{tabulate-is, length-elems, getD-elems, length-rowsAt}
 use Rattle.mining.specs.Mining.{Holds, Written}
 use Rattle.mining.proofs.Rows.{row-at}
 

@@ -1,10 +1,10 @@
 -- How large the counts and the quality can become: every product of the machine stays far below 2^64.
 -- Assumes nothing.
-use mathlib.Core.Path.{_≡_, refl, sym, _∙_, ap}
+use mathlib.Core.Path.{_≡_}
 use mathlib.Core.Bool.{Bool, So}
 use mathlib.Core.Logic.{_↔_}
 use Prim.Native.Nat.{ℕ, zero, suc, _+_, _*_, _<_, _≤_, _^_}
-use native.Mathlib.Nat.{le-trans, mul-le-mul, le-refl, le-of-eq}
+use native.Mathlib.Nat.{le-trans, mul-le-mul, le-refl, le-of-eq, not-suc-le-zero, mul-suc, suc-mul}
 use native.Mathlib.Decide.{le-ind}
 use native.Mathlib.Omega.{arith}
 use lib.Dec.{leb}
@@ -13,7 +13,7 @@ use Rattle.sets.specs.Truth.{_and_, total}
 use Rattle.sets.specs.Sets.{has}
 use Rattle.sets.proofs.Truth.{not-So, and-iff, leb-iff}
 use Rattle.sets.proofs.Items.{below-of-items}
-use Rattle.sets.proofs.Counts.{total-≤, total-bound}
+use Rattle.sets.proofs.Counts.{total-suc, total-≤, total-bound, total-zero}
 use Rattle.model.specs.Hierarchy.{Roles, candidateCount, immediateJuniors, directPermissions, directMembers, building}
 use Rattle.model.specs.Quality.{Weights, Counts, weightsAllowed, counted, counts, weigh, quality}
 use Rattle.model.proofs.Reading.{Ordered, immediate-iff, junior-iff}
@@ -49,12 +49,15 @@ pub record Small (q : Counts) : Type 0 where
   pub links : q .links ≤ 8128
 
 total-more : (c d : ℕ) (f : ℕ → ℕ) → c ≤ d → total c f ≤ total d f
-unfolding total
-total-more c d f l = le-ind (λ (d : ℕ). total c f ≤ total d f) (le-refl (total c f)) (λ m k h. omega arith) d l
+total-more c d f l = le-ind (λ (d : ℕ). total c f ≤ total d f) (le-refl (total c f)) (λ m k h. omega (arith, total-suc m f)) d l
+
+-- the sum of the numbers below n, twice
+twice-below : (n : ℕ) → 2 * total n (λ k. k) + n ≡ n * n
+twice-below zero = omega (arith, total-zero 0 (λ k. k) (λ i l. absurd (not-suc-le-zero l)))
+twice-below (suc n) = rw (mul-suc (suc n) n, suc-mul n n) (omega (arith, total-suc n (λ k. k), twice-below n))
 
 links-most : total 128 (λ k. k) ≡ 8128
-unfolding total
-links-most = refl
+links-most = omega (arith, twice-below 128)
 
 module _ (ρ : Roles) (R : ℕ) (o : Ordered ρ R) (fewUsers : ρ .users ≤ 128) (fewPermissions : ρ .permissions ≤ 256) (fewRoles : candidateCount ρ ≤ 128) where
   members-few : (k : ℕ) → ones (directMembers ρ R k) ≤ 128

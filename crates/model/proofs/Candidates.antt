@@ -74,8 +74,10 @@ idle-cases r x h empty row set =
     (λ e. set (eqb-true m x e)) (or-iff (eqb m 0 or eqb m r) (eqb m x) .0 h)
 
 pub idle-empty : (r x : ℕ) → r ∩ x ≡ 0 → So (idle r x)
-unfolding idle _or_
-idle-empty r x e = rw (eq-eqb (r ∩ x) 0 e)
+unfolding idle
+idle-empty r x e =
+    let m = r ∩ x in
+    or-iff (eqb m 0 or eqb m r) (eqb m x) .1 (_⊎_.inl (or-iff (eqb m 0) (eqb m r) .1 (_⊎_.inl (eq-eqb m 0 e))))
 
 -- an idle one adds nothing to a table that has x, and r unless it is empty; any other is placed
 module _ {table : List ℕ} (r x : ℕ) (g : Growing table) (row : (r ≡ 0) ⊎ Listed table r) (set : Listed table x) where

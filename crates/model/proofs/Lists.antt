@@ -1,14 +1,14 @@
 -- Lists by index, and sets read out of words.
 -- Assumes nothing.
-use mathlib.Core.Path.{_≡_, refl, sym, _∙_, ap, ap₂}
-use mathlib.Core.List.{List, [], _∷_}
-use Prim.Native.Nat.{ℕ, zero, suc, _+_, _-_, _*_, _/_, _%_, _^_, _<_, _≤_}
-use native.Mathlib.Nat.{not-suc-le-zero, le-of-suc-le-suc, add-zero, add-suc, mul-suc, mul-zero, mul-one, div-one, mod-lt, div-add-mod', add-comm, suc-inj, zero-div}
+use mathlib.Core.Path.{_≡_, refl, sym, _∙_, ap}
+use mathlib.Core.List.{List}
+use Prim.Native.Nat.{ℕ, zero, suc, _+_, _*_, _^_, _<_}
+use native.Mathlib.Nat.{not-suc-le-zero, le-of-suc-le-suc, add-zero}
 use native.Mathlib.Omega.{arith}
-use lib.Pow.{pow-add, shr-shr, shr-lt, pow-pos}
 use lib.ListN.{length, getD}
 use lib.Seq.{ext-getD}
 use Rattle.sets.specs.Words.{value, word}
+use Rattle.sets.proofs.Words.{value-words}
 use Rattle.model.specs.Lists.{tabulate, elems, setAt, rowsAt}
 
 pub length-tabulate : (n : ℕ) (f : ℕ → ℕ) → length (tabulate n f) ≡ n
@@ -49,42 +49,12 @@ setAt-same n xs ys at bt h =
     (ext-getD 0 (elems xs at n) (elems ys bt n) (length-elems xs at n ∙ sym (length-elems ys bt n))
     (λ i b. let b' : i < n = rw (length-elems xs at n) at b in getD-elems xs at n i b' ∙ h i b' ∙ sym (getD-elems ys bt n i b')))
 
--- ---- the words of a set
-
-pub word-first : (s : ℕ) → word s 0 ≡ s % 2 ^ 64
-unfolding word
-word-first s = ap (λ (x : ℕ). x % 2 ^ 64) (div-one s)
-
-pub word-rest : (s j : ℕ) → word s (suc j) ≡ word (s / 2 ^ 64) j
-unfolding word
-word-rest s j =
-    let e : 64 * suc j ≡ 64 + 64 * j = omega arith in
-    ap (λ (x : ℕ). x % 2 ^ 64) (rw e (sym (shr-shr s 64 (64 * j))))
-
-pub word-lt : (s j : ℕ) → word s j < 2 ^ 64
-unfolding word
-word-lt s j = mod-lt (s / 2 ^ (64 * j)) (pow-pos 64)
-
-pub word-zero : (j : ℕ) → word 0 j ≡ 0
-unfolding word
-word-zero j = rw (zero-div (2 ^ (64 * j))) refl
-
 -- n words that are those of a set below 2 ^ (64 n) stand for it
-pub value-words : (n s : ℕ) (l : List ℕ) → s < 2 ^ (64 * n) → length l ≡ n → ((j : ℕ) → j < n → getD l j 0 ≡ word s j) → value l ≡ s
-unfolding value
-value-words zero s [] b e h = omega arith
-value-words zero s (w ∷ ws) b e h = let x : suc (length ws) ≡ 0 = e in let z : ⊥ = omega arith in absurd z
-value-words (suc n) s [] b e h = let x : 0 ≡ suc n = e in let z : ⊥ = omega arith in absurd z
-value-words (suc n) s (w ∷ ws) b e h =
-    let k : 64 * suc n ≡ 64 * n + 64 = omega arith in
-    let rest : value ws ≡ s / 2 ^ 64 =
-    value-words n (s / 2 ^ 64) ws (shr-lt (64 * n) 64 (rw k at b)) (suc-inj e) (λ j l. h (suc j) (omega arith) ∙ word-rest s j) in
-    let first : w ≡ s % 2 ^ 64 = h 0 (omega arith) ∙ word-first s in
-    ap₂ (λ (x y : ℕ). x * 2 ^ 64 + y) rest first ∙ div-add-mod' s (2 ^ 64)
-
 pub setAt-words : (n s : ℕ) (ws : List ℕ) (at : ℕ) → s < 2 ^ (64 * n) → ((j : ℕ) → j < n → getD ws (at + j) 0 ≡ word s j) → setAt n ws at ≡ s
 unfolding setAt
-setAt-words n s ws at b h = value-words n s (elems ws at n) b (length-elems ws at n) (λ j l. getD-elems ws at n j l ∙ h j l)
+setAt-words n s ws at b h =
+    let e : length (elems ws at n) ≡ n = length-elems ws at n in
+    value-words (elems ws at n) s (rw e b) (λ j l. let b' : j < n = rw e at l in getD-elems ws at n j b' ∙ h j b')
 
 pub length-rowsAt : (n : ℕ) (ws : List ℕ) (at : ℕ) → length (rowsAt n ws at) ≡ n
 unfolding rowsAt

@@ -1,7 +1,7 @@
 -- The order of a pass: the roles of a worklist, each once, larger key first and ties by lower number.
 -- Assumes nothing.
 use mathlib.Core.Path.{_≡_, refl, sym, _∙_, ap, ap₂}
-use mathlib.Core.Bool.{Bool, true, false, So, false≢true}
+use mathlib.Core.Bool.{Bool, true, false, So}
 use mathlib.Core.Logic.{_↔_, _≢_, _⊎_, ⊎-elim}
 use mathlib.Core.List.{List, [], _∷_}
 use Prim.Native.Nat.{ℕ, zero, suc, _+_, _<_, _≤_, _^_, min}
@@ -13,7 +13,7 @@ use lib.Arith.{lt-of-le-ne}
 use lib.ListN.{length, getD}
 use Rattle.sets.specs.Truth.{_and_, _or_, if_then_else_, any, none}
 use Rattle.sets.specs.Sets.{has, _∖_, single}
-use Rattle.sets.proofs.Truth.{by-test, So-not, and-iff, or-iff, eqb-iff, ltb-iff, any-iff, any-of, none-of, none-is, find, either, equal-or, below-suc, if-true, if-false}
+use Rattle.sets.proofs.Truth.{by-test, So-not, and-iff, or-iff, eqb-iff, ltb-iff, any-iff, any-of, any-is, none-of, none-is, find, either, equal-or, below-suc, if-true, if-false}
 use Rattle.sets.proofs.Items.{has-zero, item-below, item-of}
 use Rattle.sets.proofs.Order.{∖-iff, ∖-lt, single-iff}
 use Rattle.sets.proofs.Counts.{ones-without, ones-none, ones-zero, ones-some}
@@ -46,14 +46,15 @@ least-is (suc n) f b =
 -- ---- the lowest index that passes a test
 
 pub first-passes : (n : ℕ) (f : ℕ → Bool) → So (any n f) → (first n f < n) × So (f (first n f))
-unfolding first any
-first-passes zero f h = absurd (false≢true h)
+unfolding first
+first-passes zero f h = absurd (not-suc-le-zero (any-is zero f h .1))
 first-passes (suc n) f h =
     by-test (any n f)
     (λ t. let r = first-passes n f t in let e = if-true (any n f) (first n f) n t in (rw e (le-step (r .0)), rw e (r .1)))
     (λ t.
     let e = if-false (any n f) (first n f) n t in
-    (rw e (lt-suc-self n), rw e (⊎-elim (λ p. p) (λ q. absurd (So-not t q)) (or-iff (f n) (any n f) .0 h))))
+    let w = any-is (suc n) f h in
+    (rw e (lt-suc-self n), rw e (below-suc (w .0) n (w .1) (λ (d : w .0 ≡ n). rw d at (w .2)) (λ l. absurd (So-not t (any-of n f (w .0) l (w .2)))))))
 
 pub first-lowest : (n : ℕ) (f : ℕ → Bool) (i : ℕ) → i < n → So (f i) → first n f ≤ i
 unfolding first

@@ -18,6 +18,7 @@ use Rattle.sets.specs.Sets.{has}
 use Rattle.sets.specs.Words.{word}
 use Rattle.sets.proofs.Items.{digit, has-above}
 use Rattle.sets.proofs.Order.{collect-lt}
+use Rattle.sets.proofs.Words.{word-lt}
 use Rattle.sets.proofs.Truth.{So-not, and-iff, eqb-iff, ltb-iff, leb-iff, all-iff, if-true, if-false, either}
 use Rattle.model.specs.Lists.{tabulate, setAt, rowsAt}
 use Rattle.model.specs.Hierarchy.{Roles, Rows, candidateCount, immediatelySenior, permissionSet, immediateJuniors, directPermissions, directMembers, building}
@@ -25,7 +26,7 @@ use Rattle.model.specs.Coverage.{allCovered}
 use Rattle.model.specs.State.{State, rolesOf, withinLimits, rowsWithin}
 use Rattle.model.specs.Record.{recordLength, crewStart, setsStart, permissionsStart, membersStart, juniorsStart, headerWord, regionWord, wordAt, built, stateOf, rowsOf, stateSound, sound}
 use Rattle.model.proofs.Building.{absent-juniors, absent-permissions, absent-members}
-use Rattle.model.proofs.Lists.{length-tabulate, getD-tabulate, tabulate-is, setAt-words, setAt-same, length-rowsAt, getD-rowsAt, word-lt, word-zero}
+use Rattle.model.proofs.Lists.{length-tabulate, getD-tabulate, tabulate-is, setAt-words, setAt-same, length-rowsAt, getD-rowsAt}
 
 -- ---- the regions
 

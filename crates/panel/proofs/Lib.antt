@@ -1,2 +1,3 @@
 pub mod Mining
 mod Telling
+pub mod Serving

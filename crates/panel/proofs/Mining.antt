@@ -10,7 +10,7 @@ use borrow.Author.Tests.{not-true, not-false}
 use lib.Dec.{eqb, leb}
 use lib.ListN.{length, getD}
 use Rattle.sets.specs.Truth.{_and_, isnt, if_then_else_}
-use Rattle.sets.proofs.Truth.{same-test, So-not, not-So, and-iff, isnt-iff, eqb-iff, leb-iff, if-true, if-false}
+use Rattle.sets.proofs.Truth.{same-test, not-So, and-iff, eqb-iff, leb-iff, if-true, if-false, if-passes, if-stops}
 use Rattle.model.specs.Lists.{rowsAt}
 use Rattle.model.specs.Candidates.{candidates}
 use Rattle.model.specs.Hierarchy.{candidateCount, permissionSet}
@@ -26,13 +26,6 @@ use Rattle.records.specs.Records.{Tabled}
 use Rattle.panel.specs.declared.mine.MineAnswer.{MineAnswer}
 use Rattle.panel.specs.Answers.{mined}
 
--- a test that is passed, and one that stops
-pub passes : (t : Bool) (k rest : ℕ) → So t → (if isnt t then k else rest) ≡ rest
-passes t k rest h = if-false (isnt t) k rest (not-So (isnt t) (λ x. isnt-iff t .0 x h))
-
-pub stops : (t : Bool) (k rest : ℕ) → t ≡ false → (if isnt t then k else rest) ≡ k
-stops t k rest h = if-true (isnt t) k rest (isnt-iff t .1 (So-not h))
-
 module _ (n m : ℕ) (crew ws : List ℕ) where
   abbrev rows : List ℕ
   rows = rowsAt n crew 0
@@ -46,15 +39,15 @@ module _ (n m : ℕ) (crew ws : List ℕ) where
 
   pub code-1 : length ws ≢ recordLength → miningRefusal n m crew ws ≡ 1
   unfolding miningRefusal
-  code-1 d = stops (eqb (length ws) recordLength) 1 _ (not-So (eqb (length ws) recordLength) (λ h. d (eqb-iff (length ws) recordLength .0 h)))
+  code-1 d = if-stops (eqb (length ws) recordLength) 1 _ (not-So (eqb (length ws) recordLength) (λ h. d (eqb-iff (length ws) recordLength .0 h)))
 
   module _ (full : length ws ≡ recordLength) where
     first : (rest : ℕ) → (if isnt (eqb (length ws) recordLength) then 1 else rest) ≡ rest
-    first rest = passes (eqb (length ws) recordLength) 1 rest (eqb-iff (length ws) recordLength .1 full)
+    first rest = if-passes (eqb (length ws) recordLength) 1 rest (eqb-iff (length ws) recordLength .1 full)
 
     pub code-2 : withinLimits n m ≡ false → miningRefusal n m crew ws ≡ 2
     unfolding miningRefusal
-    code-2 f = first _ ∙ stops (withinLimits n m) 2 _ f
+    code-2 f = first _ ∙ if-stops (withinLimits n m) 2 _ f
 
     module _ (ok : So (withinLimits n m)) where
       pub few-users : n ≤ 128
@@ -64,11 +57,11 @@ module _ (n m : ℕ) (crew ws : List ℕ) where
       few-permissions = withinLimits-iff n m .0 ok .3
 
       second : (rest : ℕ) → (if isnt (withinLimits n m) then 2 else rest) ≡ rest
-      second rest = passes (withinLimits n m) 2 rest ok
+      second rest = if-passes (withinLimits n m) 2 rest ok
 
       pub code-3 : (eqb (length crew) (4 * n) and rowsWithin m rows) ≡ false → miningRefusal n m crew ws ≡ 3
       unfolding miningRefusal
-      code-3 f = first _ ∙ second _ ∙ stops (eqb (length crew) (4 * n) and rowsWithin m rows) 3 _ f
+      code-3 f = first _ ∙ second _ ∙ if-stops (eqb (length crew) (4 * n) and rowsWithin m rows) 3 _ f
 
       module _ (fits : So (eqb (length crew) (4 * n) and rowsWithin m rows)) where
         pub size : length crew ≡ 4 * n
@@ -78,17 +71,17 @@ module _ (n m : ℕ) (crew ws : List ℕ) where
         within = and-iff (eqb (length crew) (4 * n)) (rowsWithin m rows) .0 fits .1
 
         third : (rest : ℕ) → (if isnt (eqb (length crew) (4 * n) and rowsWithin m rows) then 3 else rest) ≡ rest
-        third rest = passes (eqb (length crew) (4 * n) and rowsWithin m rows) 3 rest fits
+        third rest = if-passes (eqb (length crew) (4 * n) and rowsWithin m rows) 3 rest fits
 
         pub code-4 : 128 < length (candidates rows) → miningRefusal n m crew ws ≡ 4
         unfolding miningRefusal
         code-4 l =
             let t = leb (length (candidates rows)) 128 in
-            first _ ∙ second _ ∙ third _ ∙ stops t 4 0 (not-So t (λ h. let a = leb-iff (length (candidates rows)) 128 .0 h in let z : ⊥ = omega arith in z))
+            first _ ∙ second _ ∙ third _ ∙ if-stops t 4 0 (not-So t (λ h. let a = leb-iff (length (candidates rows)) 128 .0 h in let z : ⊥ = omega arith in z))
 
         code-0 : length (candidates rows) ≤ 128 → miningRefusal n m crew ws ≡ 0
         unfolding miningRefusal
-        code-0 l = first _ ∙ second _ ∙ third _ ∙ passes (leb (length (candidates rows)) 128) 4 0 (leb-iff (length (candidates rows)) 128 .1 l)
+        code-0 l = first _ ∙ second _ ∙ third _ ∙ if-passes (leb (length (candidates rows)) 128) 4 0 (leb-iff (length (candidates rows)) 128 .1 l)
 
         -- accepted: c, and the record built afresh with all candidates standing
         pub accepted : (c : ℕ) (r : MineAnswer) (exit : List ℕ) → (r .code ≡ 0) → (r .candidates ≡ c) → c ≡ length (candidates rows) → c ≤ 128

@@ -1,14 +1,15 @@
 -- The items of a table's sets, counted one set after the other; for any number of words to a set.
 -- Assumes nothing.
-use mathlib.Core.Path.{_≡_, refl, sym, _∙_, ap, ap₂}
+use mathlib.Core.Path.{_≡_, sym, _∙_, ap, ap₂}
 use mathlib.Core.List.{List}
 use Prim.Native.Nat.{ℕ, suc, _+_, _*_, _^_, _≤_, _<_}
-use native.Mathlib.Nat.{mul-suc, suc-mul, mul-zero, mul-le-mul-left, add-comm}
+use native.Mathlib.Nat.{mul-suc, suc-mul, mul-zero, mul-le-mul-left, add-comm, not-suc-le-zero}
 use native.Mathlib.Omega.{arith}
 use lib.Count.{ones, ones-le}
 use lib.ListN.{getD, take, drop}
 use Rattle.sets.specs.Truth.{total}
 use Rattle.sets.proofs.Truth.{either, total-same}
+use Rattle.sets.proofs.Counts.{total-suc, total-zero}
 use Rattle.model.specs.Lists.{setAt}
 use Rattle.model.specs.Quality as model
 use Rattle.model.specs.Record.{rowsOf}
@@ -24,12 +25,17 @@ pub record Tallied (w : ℕ) (table : List ℕ) (c i n : ℕ) : Type 0 where
   pub small : n ≤ done * (64 * w)
 
 pub tallied-none : (w : ℕ) (table : List ℕ) (c : ℕ) → Tallied w table c 0 0
-unfolding total
-tallied-none w table c = record { done = 0; place = sym (mul-zero w); within = omega arith; sum = refl; small = omega arith }
+tallied-none w table c =
+    record {
+      done = 0;
+      place = sym (mul-zero w);
+      within = omega arith;
+      sum = sym (total-zero 0 (λ k. ones (setAt w table (w * k))) (λ k l. absurd (not-suc-le-zero l)));
+      small = omega arith;
+    }
 
 pub tallied-more : (w : ℕ) (table : List ℕ) (c i n s r : ℕ) → Tallied w table c i n → i + w ≤ w * c → 0 < w
     → s ≡ setAt w table i → s < 2 ^ (64 * w) → r ≡ ones s → Tallied w table c (i + w) (n + r)
-unfolding total
 tallied-more w table c i n s r t room some es b er =
     let k = t .done in
     let same : r ≡ ones (setAt w table (w * k)) = er ∙ ap ones (es ∙ ap (setAt w table) (t .place)) in
@@ -39,7 +45,7 @@ tallied-more w table c i n s r t room some es b er =
       done = suc k;
       place = ap (λ (x : ℕ). x + w) (t .place) ∙ sym (mul-suc w k);
       within = low;
-      sum = ap₂ (λ (x y : ℕ). x + y) (t .sum) same ∙ add-comm _ _;
+      sum = ap₂ (λ (x y : ℕ). x + y) (t .sum) same ∙ add-comm _ _ ∙ sym (total-suc k (λ k. ones (setAt w table (w * k))));
       small = let e : suc k * (64 * w) ≡ k * (64 * w) + 64 * w = suc-mul k (64 * w) in let f = t .small in omega arith;
     }
 

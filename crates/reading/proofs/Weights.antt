@@ -7,13 +7,13 @@ use native.Mathlib.Nat.{mul-le-mul}
 use lib.Dec.{leb}
 use Rattle.model.specs.Quality as model
 use Rattle.model.proofs.Bounds.{weightsAllowed-iff}
-use Rattle.reading.proofs.Search.{both}
+use Rattle.sets.proofs.Written.{both-test}
 use Rattle.reading.specs.declared.quality.Counts.{Counts}
 use Rattle.reading.specs.Reading.{weightsOf, Few}
 
 pub allowed-test : (w1 w2 w3 w4 : ℕ) → (leb w1 1000 && leb w2 1000 && leb w3 1000 && leb w4 1000) ≡ model.weightsAllowed (weightsOf w1 w2 w3 w4)
 unfolding model.weightsAllowed weightsOf
-allowed-test w1 w2 w3 w4 = rw (both, both, both) refl
+allowed-test w1 w2 w3 w4 = rw (both-test, both-test, both-test) refl
 
 -- each product is small
 pub record Products (q : Counts) (w1 w2 w3 w4 : ℕ) : Type 0 where

@@ -16,13 +16,14 @@ use Rattle.sets.specs.Words.{word}
 use Rattle.sets.proofs.Truth.{by-test, same-test, So-not, not-So, and-iff, eqb-iff, leb-iff, ltb-iff, all-iff, all-same, either}
 use Rattle.sets.proofs.Order.{subset-iff, collect-iff}
 use Rattle.sets.proofs.Items.{same-set, item-below, below-of-items}
+use Rattle.sets.proofs.Words.{word-zero}
 use Rattle.model.specs.Lists.{setAt, rowsAt}
 use Rattle.model.specs.Candidates.{candidates}
 use Rattle.model.specs.Hierarchy.{candidateCount, permissionSet}
 use Rattle.model.specs.Coverage.{allCovered}
 use Rattle.model.specs.Record.{recordLength, crewStart, wordAt, built, stateOf, stateSound, sound}
 use Rattle.model.specs.State.{State, rolesOf, fresh, withinLimits, rowsWithin}
-use Rattle.model.proofs.Lists.{length-rowsAt, getD-rowsAt, word-zero}
+use Rattle.model.proofs.Lists.{length-rowsAt, getD-rowsAt}
 use Rattle.model.proofs.Record.{Limits, withinLimits-iff, rowsWithin-iff, stateSound-iff, sound-iff, built-length, built-word}
 use Rattle.tables.specs.Stores.{putAt}
 use Rattle.tables.specs.Tables.{Holds}

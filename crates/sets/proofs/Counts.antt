@@ -18,6 +18,10 @@ use Rattle.sets.proofs.Order.{single-iff, has-with, with-without, ∖-i
 
 -- ---- sums
 
+pub total-suc : (n : ℕ) (f : ℕ → ℕ) → total (suc n) f ≡ f n + total n f
+unfolding total
+total-suc n f = refl
+
 pub total-add : (n : ℕ) (f g : ℕ → ℕ) → total n (λ i. f i + g i) ≡ total n f + total n g
 unfolding total
 total-add zero f g = refl

@@ -225,6 +225,10 @@ unfolding collect
 collect-lt zero f = omega arith
 collect-lt (suc n) f = rw (pow-succ' 2 n) (digits-lt (bit-lt (f n)) (collect-lt n f))
 
+pub collect-zero : (f : ℕ → Bool) → collect 0 f ≡ 0
+unfolding collect
+collect-zero f = refl
+
 pub has-collect : (n : ℕ) (f : ℕ → Bool) (i : ℕ) → i < n → has (collect n f) i ≡ f i
 unfolding collect
 has-collect zero f i h = absurd (not-suc-le-zero h)

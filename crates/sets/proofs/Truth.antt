@@ -1,6 +1,6 @@
 -- The tests of specs/Truth, each turned into the statement that it computes, and back.
 -- Assumes nothing.
-use mathlib.Core.Path.{_≡_, refl, sym, _∙_}
+use mathlib.Core.Path.{_≡_, refl, sym, _∙_, ap}
 use mathlib.Core.Bool.{Bool, true, false, So, false≢true, true≢false}
 use mathlib.Core.Logic.{_↔_, _≢_, _⊎_, ⊎-elim}
 use Prim.Native.Nat.{ℕ, zero, suc, _+_, _≤_, _<_}
@@ -10,7 +10,7 @@ use native.Mathlib.Omega.{arith}
 use lib.Dec.{eqb, ltb, leb}
 use lib.Arith.{lt-of-le-ne}
 use borrow.Author.Tests.{eqb-true, eqb-false, eq-eqb, ltb-true, ltb-false, lt-ltb, leb-true, le-leb}
-use Rattle.sets.specs.Truth.{_and_, _or_, _implies_, isnt, if_then_else_, any, all, none, total}
+use Rattle.sets.specs.Truth.{_and_, _or_, _implies_, isnt, if_then_else_, bit, any, all, none, total}
 
 -- ---- one test
 
@@ -74,6 +74,25 @@ pub if-false {ℓ} : {A : Type ℓ} (t : Bool) (a b : A) → t ≡ false → (if
 unfolding if_then_else_
 if-false true a b h = absurd (true≢false h)
 if-false false a b h = refl
+
+-- a test that is to hold, and stops where it does not
+pub if-passes {ℓ} : {A : Type ℓ} (t : Bool) (a b : A) → So t → (if isnt t then a else b) ≡ b
+if-passes t a b h = if-false (isnt t) a b (not-So (isnt t) (λ s. isnt-iff t .0 s h))
+
+pub if-stops {ℓ} : {A : Type ℓ} (t : Bool) (a b : A) → t ≡ false → (if isnt t then a else b) ≡ a
+if-stops t a b h = if-true (isnt t) a b (isnt-iff t .1 (So-not h))
+
+-- what a choice gave, by the way that it went
+pub if-cases {ℓ ℓ'} : {A : Type ℓ} {C : Type ℓ'} (t : Bool) (a b r : A) → (if t then a else b) ≡ r → (So t → a ≡ r → C) → (t ≡ false → b ≡ r → C) → C
+if-cases t a b r e l o = by-test t (λ h. l h (sym (if-true t a b h) ∙ e)) (λ h. o h (sym (if-false t a b h) ∙ e))
+
+pub bit-true : (t : Bool) → So t → bit t ≡ 1
+unfolding bit
+bit-true t h = ap bit h
+
+pub bit-false : (t : Bool) → t ≡ false → bit t ≡ 0
+unfolding bit
+bit-false t h = ap bit h
 
 -- ---- one of two numbers' orders
 

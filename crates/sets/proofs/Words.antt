@@ -27,12 +27,26 @@ Words ws = (i : ℕ) → getD ws i 0 < 2 ^ 64
 power-suc : (n : ℕ) → 2 ^ (64 * suc n) ≡ 2 ^ (64 * n) * 2 ^ 64
 power-suc n = ap (λ (x : ℕ). 2 ^ x) (mul-suc 64 n) ∙ pow-add 2 (64 * n) 64
 
+-- ---- the number of a list of words
+
+pub value-nil : value [] ≡ 0
+unfolding value
+value-nil = refl
+
+pub value-cons : (w : ℕ) (ws : List ℕ) → value (w ∷ ws) ≡ value ws * 2 ^ 64 + w
+unfolding value
+value-cons w ws = refl
+
 pub value-lt : (ws : List ℕ) → Words ws → value ws < 2 ^ (64 * length ws)
 unfolding value
 value-lt [] h = omega arith
 value-lt (w ∷ ws) h = rw (power-suc (length ws)) (digits-lt (value-lt ws (λ i. h (suc i))) (h 0))
 
 -- ---- word j of the number is word j of the list
+
+pub word-quotient : (s j : ℕ) → word s j ≡ s / 2 ^ (64 * j) % 2 ^ 64
+unfolding word
+word-quotient s j = refl
 
 pub word-first : (s : ℕ) → word s 0 ≡ s % 2 ^ 64
 unfolding word

@@ -1,7 +1,7 @@
 -- The laws of Words, Compare, Below and Extremes as the code writes them out, for any number n of words. A method cites one at its own n.
 -- Assumes nothing.
 use mathlib.Core.Path.{_≡_, refl, sym, _∙_, ap}
-use mathlib.Core.Bool.{Bool, true, false, _&&_, not}
+use mathlib.Core.Bool.{Bool, true, false, _&&_, _||_, not}
 use mathlib.Core.List.{List, [], _∷_}
 use mathlib.Core.Logic.{_↔_}
 use Prim.Native.Nat.{ℕ, zero, suc, _-_, _*_, _/_, _%_, _^_, _≤_, _<_, min}
@@ -18,7 +18,7 @@ use lib.Count.{ones}
 use lib.ListN.{length, getD, set, List·getD-eq-default}
 use lib.Seq.{set-out}
 use Rattle.sets.specs.declared.item.Item.the-variants.{Nothing}
-use Rattle.sets.specs.Truth.{_and_, isnt, if_then_else_}
+use Rattle.sets.specs.Truth.{_and_, _or_, isnt, if_then_else_}
 use Rattle.sets.specs.Sets.{has, _∩_, _∪_, _∖_, single, subset, properSubset}
 use Rattle.sets.specs.Words.{value, word}
 use Rattle.sets.specs.Extremes.{lowest, highest}
@@ -180,6 +180,17 @@ if-equal a b x y e = sym (if-true (eqb a b) x y (eq-eqb a b e))
 
 pub if-other {ℓ} : {A : Type ℓ} (a b : ℕ) (x y : A) → (a ≡ b → ⊥) → y ≡ (if eqb a b then x else y)
 if-other a b x y d = sym (if-false (eqb a b) x y (ne-eqb a b d))
+
+-- the connectives of the code
+pub both-test : (p q : Bool) → (p && q) ≡ (p and q)
+unfolding _and_
+both-test true q = refl
+both-test false q = refl
+
+pub either-test : (p q : Bool) → (p || q) ≡ (p or q)
+unfolding _or_
+either-test true q = refl
+either-test false q = refl
 
 but-not : (p q : Bool) → (p && not q) ≡ (p and isnt q)
 unfolding _and_ isnt

@@ -14,7 +14,7 @@ use lib.Pow.{pow-add, pow-mono, field, mod-mod-pow, shr-shr}
 use lib.Bits.{bitAnd, and-mask}
 use Rattle.sets.specs.Truth.{_and_, all}
 use Rattle.sets.specs.Words.{value, word}
-use Rattle.sets.proofs.Written.{Arr}
+use Rattle.sets.proofs.Words.{value-nil, value-cons, value-words, word-quotient}
 use Rattle.sets.proofs.Truth.{not-So, and-iff, all-of, all-is, ltb-iff, leb-iff, either}
 use Rattle.text.specs.Digits.{digitAt, digitByte}
 use Rattle.text.proofs.Bytes.{all-through}
@@ -129,13 +129,13 @@ pub hex-words : (d : ℕ) (text : List ℕ) (at a b c w0 w1 w2 w3 : ℕ) → d �
     → w0 ≡ hexadecimalValue (d - a) text (at + a) → w1 ≡ hexadecimalValue (a - b) text (at + b) → w2 ≡ hexadecimalValue (b - c) text (at + c)
     → w3 ≡ hexadecimalValue c text at
     → value (w0 ∷ w1 ∷ w2 ∷ w3 ∷ []) ≡ hexadecimalValue d text at
-unfolding value
 hex-words d text at a b c w0 w1 w2 w3 h ea eb ec e0 e1 e2 e3 =
     let p : hexadecimalValue d text at ≡ hexadecimalValue a text at * 2 ^ 64 + w0 = rw (e0, ea) (hex-word d text at) in
     let q : hexadecimalValue a text at ≡ hexadecimalValue b text at * 2 ^ 64 + w1 = rw (e1, eb) (hex-word a text at) in
     let r : hexadecimalValue b text at ≡ hexadecimalValue c text at * 2 ^ 64 + w2 = rw (e2, ec) (hex-word b text at) in
     let z : hexadecimalValue c text at ≡ 0 * 2 ^ 64 + w3 = omega arith in
-    sym (p ∙ ap (λ (x : ℕ). x * 2 ^ 64 + w0) (q ∙ ap (λ (x : ℕ). x * 2 ^ 64 + w1) (r ∙ ap (λ (x : ℕ). x * 2 ^ 64 + w2) z)))
+    rw (value-cons w0 (w1 ∷ w2 ∷ w3 ∷ []), value-cons w1 (w2 ∷ w3 ∷ []), value-cons w2 (w3 ∷ []), value-cons w3 [], value-nil)
+    (sym (p ∙ ap (λ (x : ℕ). x * 2 ^ 64 + w0) (q ∙ ap (λ (x : ℕ). x * 2 ^ 64 + w1) (r ∙ ap (λ (x : ℕ). x * 2 ^ 64 + w2) z))))
 
 -- ---- the digits of a set
 
@@ -146,10 +146,10 @@ nibble-in n e f h =
 
 -- digit k of a set, from the word that holds it
 pub hex-nibble : (s k : ℕ) → bitAnd (word s (k / 16) / 2 ^ (4 * (k % 16))) 15 ≡ s / 16 ^ k % 16
-unfolding word
 hex-nibble s k =
     let p : 64 * (k / 16) + 4 * (k % 16) ≡ 4 * k = omega arith in
     and-mask (word s (k / 16) / 2 ^ (4 * (k % 16))) 4
+    ∙ ap (λ (w : ℕ). w / 2 ^ (4 * (k % 16)) % 2 ^ 4) (word-quotient s (k / 16))
     ∙ nibble-in (s / 2 ^ (64 * (k / 16))) (4 * (k % 16)) (60 - 4 * (k % 16)) (omega arith)
     ∙ ap (λ (x : ℕ). x % 16) (shr-shr s (64 * (k / 16)) (4 * (k % 16)) ∙ ap (λ (x : ℕ). s / 2 ^ x) p ∙ ap (λ (x : ℕ). s / x) (sym (sixteen k)))
 
@@ -175,10 +175,14 @@ pub hex-stored : (l l' : List ℕ) (at d i s : ℕ) → d ≤ i → putAt l (at 
 unfolding putAt hexadecimal
 hex-stored l l' at d i s h e = let z : d - i ≡ 0 = omega arith in rw z at e
 
--- two words with none above them
-pub wider : (ws : List ℕ) → Arr 2 ws → value (getD ws 0 0 ∷ getD ws 1 0 ∷ 0 ∷ 0 ∷ []) ≡ value ws
-unfolding value
-wider [] a = let z : _≡_ {A = ℕ} 0 2 = a .0 in absurd (omega arith)
-wider (x ∷ []) a = let z : _≡_ {A = ℕ} 1 2 = a .0 in absurd (omega arith)
-wider (x ∷ y ∷ []) a = ap (λ (v : ℕ). (v * 2 ^ 64 + y) * 2 ^ 64 + x) (let e : (0 * 2 ^ 64 + 0) * 2 ^ 64 + 0 ≡ 0 = omega arith in e)
-wider (x ∷ y ∷ w ∷ ws) a = let z : suc (suc (suc (length ws))) ≡ 2 = a .0 in absurd (omega arith)
+-- the words of a set of items below 128, with none above them
+pub wider : (s : ℕ) → s < 2 ^ 128 → value (word s 0 ∷ word s 1 ∷ 0 ∷ 0 ∷ []) ≡ s
+wider s h =
+    let two : value (word s 0 ∷ word s 1 ∷ []) ≡ s = value-words (word s 0 ∷ word s 1 ∷ []) s h there in
+    rw (value-cons (word s 0) (word s 1 ∷ 0 ∷ 0 ∷ []), value-cons (word s 1) (0 ∷ 0 ∷ []), value-cons 0 (0 ∷ []), value-cons 0 [], value-nil)
+    (rw (value-cons (word s 0) (word s 1 ∷ []), value-cons (word s 1) [], value-nil) at two)
+  where
+    there : (j : ℕ) → j < 2 → getD (word s 0 ∷ word s 1 ∷ []) j 0 ≡ word s j
+    there zero l = refl
+    there (suc zero) l = refl
+    there (suc (suc j)) l = absurd (omega arith)

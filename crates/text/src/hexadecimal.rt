@@ -86,6 +86,5 @@ pub fn put_hexadecimal_128(out: &mut [u8], at: usize, s: Set128, d: usize) -> us
     requires { ⌜ at + d ≤ length (now out) ⌝ }
     ensures { λ r. ⌜ (r ≡ at + d) × (now (out .exit) ≡ putAt (now (out .entry)) at (hexadecimal d (set128 s))) ⌝ }
 {
-    let w = s.words;
-    put_hexadecimal(out, at, Set256::from_words([w[0], w[1], 0, 0]), d)
+    put_hexadecimal(out, at, Set256::from_words([s.word(0), s.word(1), 0, 0]), d)
 }

@@ -3,7 +3,7 @@
 use Prim.Native.Nat.{_^_, _<_}
 use borrow.Author.Needs.{needs}
 use Rattle.sets.specs.Held.{set256}
-use Rattle.sets.proofs.Written.{words, arr-lt}
+use Rattle.sets.proofs.Written.{words, held256}
 use Rattle.mining.proofs.Moving.{Moved, moved-none, moved-more, inserted}
 use Rattle.mining.proofs.insert.Statement.{statement}
 use Rattle.mining.proofs.insert.Tie as tie
@@ -63,8 +63,7 @@ same-length : tie.Need-same-length Inv-loop μ-loop
 same-length c = search needs
 
 within : (c : tie.Start Inv-loop μ-loop) → set256 (c .args .x) < 2 ^ 256
-unfolding set256
-within c = arr-lt 4 (c .args .x .words) (search words)
+within c = search (words, held256)
 
 returns : tie.Need-returns Inv-loop μ-loop
 returns c =

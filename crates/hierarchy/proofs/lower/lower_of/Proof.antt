@@ -1,12 +1,12 @@
 -- The roles below j whose set lies within s are collected.
 -- Assumes nothing.
 use borrow.Author.Needs.{needs}
-use mathlib.Core.Path.{_≡_, _∙_}
+use mathlib.Core.Path.{_≡_, sym, _∙_}
 use native.Mathlib.Omega.{arith}
 use Prim.Native.Nat.{_-_, _*_, _≤_}
 use Rattle.sets.specs.Held.{set128, set256}
 use Rattle.sets.specs.Sets.{subset, collect}
-use Rattle.sets.proofs.Order.{collect-more}
+use Rattle.sets.proofs.Order.{collect-zero, collect-more}
 use Rattle.model.specs.Lists.{setAt}
 use Rattle.hierarchy.proofs.lower.lower_of.Statement.{statement}
 use Rattle.hierarchy.proofs.lower.lower_of.Tie as tie
@@ -27,8 +27,7 @@ empty-requires : tie.Need-empty-requires Inv-loop μ-loop
 empty-requires c κs = search needs
 
 loop-holds : tie.Need-loop-holds Inv-loop μ-loop
-unfolding collect
-loop-holds c = (search needs, c .empty .ensures)
+loop-holds c = (search needs, c .empty .ensures ∙ sym (collect-zero _))
 
 mul-load256-2 : tie.Need-mul-load256-2 Inv-loop μ-loop
 mul-load256-2 c = search needs

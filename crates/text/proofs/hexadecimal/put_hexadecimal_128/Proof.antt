@@ -1,17 +1,21 @@
 -- The same number in four words.
 -- Assumes nothing.
-use Rattle.text.proofs.Hexadecimals.{wider}
-use Rattle.sets.proofs.Written.{words}
-use Rattle.sets.specs.Held.{set128}
+use mathlib.Core.Path.{_≡_, _∙_, ap₂}
+use mathlib.Core.List.{[], _∷_}
+use Prim.Native.Nat.{ℕ, _^_, _<_}
 use borrow.Author.Needs.{needs}
+use Rattle.sets.specs.Held.{set128, set256}
+use Rattle.sets.specs.Words.{value}
+use Rattle.sets.proofs.Written.{words, held128}
+use Rattle.text.proofs.Hexadecimals.{wider}
 use Rattle.text.proofs.hexadecimal.put_hexadecimal_128.Statement.{statement}
 use Rattle.text.proofs.hexadecimal.put_hexadecimal_128.Tie as tie
 
-array-read-t11 : tie.Need-array-read-t11
-array-read-t11 c = search needs
+word-requires : tie.Need-word-requires
+word-requires c κs = search needs
 
-array-read-t14 : tie.Need-array-read-t14
-array-read-t14 c = search needs
+word-requires-2 : tie.Need-word-requires-2
+word-requires-2 c κs = search needs
 
 from-words-requires : tie.Need-from-words-requires
 from-words-requires c κs = search needs
@@ -22,16 +26,25 @@ put-hexadecimal-requires c κs = search needs
 same-length : tie.Need-same-length
 same-length c = search needs
 
+within : (c : tie.Start) → set128 (c .args .s) < 2 ^ 128
+within c = search (words, held128)
+
 returns : tie.Need-returns
-unfolding set128
-returns c = (c .before .before .put-hexadecimal .ensures .0, rw (← wider (c .before .before .before .before .before .before .before .args .s .words) (search words)) (rw (← c .before .before .before .from-words .ensures) (c .before .before .put-hexadecimal .ensures .1)))
+returns c =
+    let start = c .before .before .before .before .before .before .before .before in
+    let call = c .before .before in
+    let same : set256 (call .before .from-words .result) ≡ set128 (start .args .s) =
+    call .before .from-words .ensures
+    ∙ ap₂ (λ (x y : ℕ). value (x ∷ y ∷ 0 ∷ 0 ∷ [])) (call .before .before .before .word .ensures) (call .before .before .word2 .ensures)
+    ∙ wider (set128 (start .args .s)) (within start) in
+    (call .put-hexadecimal .ensures .0, rw same at (call .put-hexadecimal .ensures .1))
 
 pub put-hexadecimal-128-spec : {M : Type 1} → statement M
 put-hexadecimal-128-spec =
     tie.close
     (tie.spec
-    array-read-t11
-    array-read-t14
+    word-requires
+    word-requires-2
     from-words-requires
     put-hexadecimal-requires
     same-length

@@ -1,0 +1,182 @@
+-- A pass as the code makes it: the roles of a worklist taken up one after the other.
+-- Assumes nothing.
+use mathlib.Core.Path.{_≡_, refl, sym, _∙_, ap, ap₂, subst}
+use mathlib.Core.Bool.{Bool, true, false, So}
+use mathlib.Core.Logic.{_≢_}
+use mathlib.Core.List.{List}
+use Prim.Native.Nat.{ℕ, zero, suc, _+_, _-_, _*_, _^_, _≤_, _<_}
+use native.Mathlib.Nat.{le-trans}
+use native.Mathlib.Omega.{arith}
+use lib.Count.{ones, ones-le}
+use lib.ListN.{getD, take, drop}
+use Rattle.sets.specs.Sets.{has, _∪_, _∖_, single, subset}
+use Rattle.sets.proofs.Truth.{not-So}
+use Rattle.sets.proofs.Items.{below-of-items, item-below}
+use Rattle.sets.proofs.Order.{∖-iff, ∖-lt, single-iff, subset-iff}
+use Rattle.sets.proofs.Counts.{ones-without, ones-zero}
+use Rattle.model.specs.Hierarchy.{Roles, candidateCount}
+use Rattle.model.specs.Quality.{Weights, quality}
+use Rattle.model.specs.Machine as model
+use Rattle.model.specs.Coverage.{strikables}
+use Rattle.model.specs.Machine.{Run, dropped, struck, kept, takeUp, takeUpAll, foremost, redundancy}
+use Rattle.model.specs.Record.{crewStart, setsStart, stateOf}
+use Rattle.model.specs.State.{State, rolesOf, standingNow}
+use Rattle.model.proofs.Elimination.{take-up, examined-one}
+use Rattle.model.proofs.Steps.{now-now, roles-now, standing-now}
+use Rattle.ordering.specs.Ranking.{Ranked}
+use Rattle.ordering.proofs.Facts.{ranked}
+use Rattle.trials.specs.declared.progress.Progress.{Progress}
+use Rattle.trials.specs.Trying.{runAt, Kin, Ready, Going}
+use Rattle.trials.proofs.Moving.{roles-count}
+use Rattle.trials.proofs.Runs.{kin-same, kin-trans, kin-roles, kin-count}
+use Rattle.eliminating.specs.Passing.{Searched, Stand, Keyed}
+use Rattle.eliminating.proofs.Turns.{searched-indexed}
+
+-- ---- what a turn leaves
+
+module _ (ρ : Roles) (w : Weights) (t : model.Tolerance) (k : ℕ) (r : Run) where
+  -- the others stand as they did
+  pub up-standing : (i : ℕ) → So (has (r .standing) i) → i ≢ k → So (has (takeUp ρ w t k r .standing) i)
+  unfolding dropped struck kept
+  up-standing i h d =
+      take-up ρ w t k r (λ _ e. rw e h) (λ _ _ e. rw e (∖-iff (r .standing) (single k) i .1 (h, λ x. d (sym (single-iff k i .0 x))))) (λ _ _ e. rw e h)
+
+  -- what is listed stands
+  pub up-listed : Stand (r .worklist) (r .standing) → Stand (takeUp ρ w t k r .worklist) (takeUp ρ w t k r .standing)
+  unfolding dropped struck kept
+  up-listed inv =
+      take-up ρ w t k r (λ _ e. rw e (λ i h. inv i (∖-iff (r .worklist) (single k) i .0 h .0)))
+      (λ _ _ e.
+      rw e (λ i h. let a = ∖-iff (r .worklist) (single k) i .0 h in ∖-iff (r .standing) (single k) i .1 (inv i (a .0), a .1)))
+      (λ _ _ e. rw e inv)
+
+  -- and is no more than was
+  pub up-fewer : (i : ℕ) → So (has (takeUp ρ w t k r .worklist) i) → So (has (r .worklist) i)
+  unfolding dropped struck kept
+  up-fewer i =
+      take-up ρ w t k r (λ _ e. rw e (λ h. ∖-iff (r .worklist) (single k) i .0 h .0)) (λ _ _ e. rw e (λ h. ∖-iff (r .worklist) (single k) i .0 h .0))
+      (λ _ _ e. rw e (λ h. h))
+
+  pub up-changed : takeUp ρ w t k r .changed ≤ suc (r .changed)
+  unfolding dropped struck kept
+  up-changed = take-up ρ w t k r (λ _ e. rw e (omega arith)) (λ _ _ e. rw e (omega arith)) (λ _ _ e. rw e (omega arith))
+
+-- what stands is below c, and at most 128 roles
+pub stand-below : (ws low users : List ℕ) (s : ℕ) → Ready ws low users → Stand s (stateOf ws .standing) → s < 2 ^ candidateCount (rolesOf (stateOf ws))
+stand-below ws low users s ready inv =
+    let c = candidateCount (rolesOf (stateOf ws)) in
+    below-of-items c s (λ i l. not-So (has s i) (λ h. let x = item-below c (stateOf ws .standing) i (ready .limits .standing-below) (inv i h) in let z : ⊥ = omega arith in z))
+
+pub stand-few : (ws low users : List ℕ) (s : ℕ) → Ready ws low users → Stand s (stateOf ws .standing) → ones s ≤ 128
+stand-few ws low users s ready inv =
+    le-trans (ones-le (candidateCount (rolesOf (stateOf ws))) s (stand-below ws low users s ready inv)) (ready .limits .candidates-most)
+
+-- ---- the walk: `todo` is not yet taken up, mid, g and list are what the roles before have left
+
+module _ (ws low users keys : List ℕ) (w : Weights) (t : model.Tolerance) (at : Progress) (wl : ℕ) where
+  abbrev ρ : Roles
+  ρ = rolesOf (stateOf ws)
+
+  pub record Taking (mid : List ℕ) (g : Progress) (list todo : ℕ) : Type 0 where
+    pub going : Going mid low users g
+    pub kin : Kin (stateOf ws) mid
+    pub below : todo < 2 ^ candidateCount ρ
+    pub run : (key : ℕ → ℕ) → Keyed keys wl key → takeUpAll ρ w t key (ones wl) wl (runAt ws at wl) ≡ takeUpAll ρ w t key (ones todo) todo (runAt mid g list)
+    pub within : (i : ℕ) → So (has todo i) → So (has wl i)
+    pub standing : Stand todo (stateOf mid .standing)
+    pub listed : Stand list (stateOf mid .standing)
+    pub changed : g .changed + ones todo ≤ at .changed + ones wl
+    pub examined : g .examined + ones todo ≤ at .examined + ones wl
+    pub quality : g .quality ≤ 100000000
+
+  pub taking-start : Going ws low users at → Stand wl (stateOf ws .standing) → at .quality ≤ 100000000 → Taking ws at wl wl
+  taking-start going inv few =
+      record {
+        going = going;
+        kin = kin-same ws;
+        below = stand-below ws low users wl (going .ready) inv;
+        run = λ key h. refl;
+        within = λ i h. h;
+        standing = inv;
+        listed = inv;
+        changed = omega arith;
+        examined = omega arith;
+        quality = few;
+      }
+
+  module _ (mid : List ℕ) (g : Progress) (list todo : ℕ) (p : Taking mid g list todo) where
+    pub taking-bound : (g .changed ≤ at .changed + ones wl) × (g .examined ≤ at .examined + ones wl)
+    taking-bound = let x = p .changed in let y = p .examined in (omega arith, omega arith)
+
+    module _ (k : ℕ) (here : So (has todo k))
+        (chosen : (c : ℕ) (key : ℕ → ℕ) → c ≤ 128 → todo < 2 ^ c → Keyed keys todo key → k ≡ foremost c key todo) (after : List ℕ) (r : Progress) (list' todo' : ℕ)
+        (turn : Going after low users r × Kin (stateOf mid) after × (runAt after r list' ≡ takeUp (rolesOf (stateOf mid)) w t k (runAt mid g list)) × (r .quality ≤ 100000000))
+        (et : todo' ≡ todo ∖ single k) where
+      next : runAt after r list' ≡ takeUp ρ w t k (runAt mid g list)
+      next = rw (kin-roles (stateOf ws) mid (p .kin)) at (turn .2)
+
+      fewer : suc (ones todo') ≡ ones todo
+      fewer = rw et (ones-without todo k here)
+
+      all-next : (key : ℕ → ℕ) → Keyed keys wl key → takeUpAll ρ w t key (ones todo) todo (runAt mid g list) ≡ takeUpAll ρ w t key (ones todo') todo' (runAt after r list')
+      unfolding takeUpAll
+      all-next key h =
+          let c = candidateCount ρ in
+          let few = rw (kin-roles (stateOf ws) mid (p .kin)) at (p .going .ready .limits .candidates-most) in
+          let first : k ≡ foremost c key todo = chosen c key few (p .below) (λ i x. h i (p .within i x)) in
+          let more : takeUpAll ρ w t key (ones todo) todo (runAt mid g list) ≡ takeUpAll ρ w t key (suc (ones todo')) todo (runAt mid g list) = ap (λ (n : ℕ). takeUpAll ρ w t key n todo (runAt mid g list)) (sym fewer) in
+          more ∙ ap (λ (j : ℕ). takeUpAll ρ w t key (ones todo') (todo ∖ single j) (takeUp ρ w t j (runAt mid g list))) (sym first)
+          ∙ (λ i. takeUpAll ρ w t key (ones todo') (sym et i) (sym next i))
+
+      pub taking-more : Taking after r list' todo'
+      unfolding runAt
+      taking-more =
+          let now-standing : stateOf after .standing ≡ takeUp ρ w t k (runAt mid g list) .standing = ap (λ (x : Run). x .standing) next in
+          let now-list : list' ≡ takeUp ρ w t k (runAt mid g list) .worklist = ap (λ (x : Run). x .worklist) next in
+          let changed : r .changed ≤ suc (g .changed) = rw (ap (λ (x : Run). x .changed) next) (up-changed ρ w t k (runAt mid g list)) in
+          let examined : r .examined ≡ suc (g .examined) = ap (λ (x : Run). x .examined) next ∙ examined-one ρ w t k (runAt mid g list) in
+          let pc = p .changed in
+          let pe = p .examined in
+          let f = fewer in
+          record {
+            going = turn .0;
+            kin = kin-trans (stateOf ws) mid after (p .kin) (turn .1);
+            below = rw et (∖-lt (candidateCount ρ) todo (single k) (p .below));
+            run = λ key h. p .run key h ∙ all-next key h;
+            within = λ i h. p .within i (∖-iff todo (single k) i .0 (rw et at h) .0);
+            standing = λ i h.
+                let a = ∖-iff todo (single k) i .0 (rw et at h) in
+                rw now-standing (up-standing ρ w t k (runAt mid g list) i (p .standing i (a .0)) (λ e. a .1 (single-iff k i .1 (sym e))));
+            listed = rw (now-list, now-standing) (up-listed ρ w t k (runAt mid g list) (p .listed));
+            changed = omega arith;
+            examined = omega arith;
+            quality = turn .3;
+          }
+
+    pub taking-all : todo ≡ 0 → (key : ℕ → ℕ) → Keyed keys wl key → runAt mid g list ≡ takeUpAll ρ w t key (ones wl) wl (runAt ws at wl)
+    unfolding takeUpAll
+    taking-all e key h =
+        let none : ones todo ≡ 0 = ap ones e ∙ ones-zero in
+        sym (p .run key h ∙ ap (λ (n : ℕ). takeUpAll ρ w t key n todo (runAt mid g list)) none)
+
+-- the indexes of a state are those of every state with the same crew list
+searched-now : (st : State) (S : ℕ) (roles holders : List ℕ) → Searched st roles holders → Searched (standingNow st S) roles holders
+unfolding standingNow rolesOf
+searched-now st S roles holders a = record { user-roles = a .user-roles; permission-roles = a .permission-roles }
+
+pub searched-kin : (st : State) (ws roles holders : List ℕ) → Searched st roles holders → Kin st ws → Searched (stateOf ws) roles holders
+searched-kin st ws roles holders a k = subst (λ (x : State). Searched x roles holders) (sym k) (searched-now st (stateOf ws .standing) roles holders a)
+
+-- ---- the pass
+
+pub pass-keyed : (ws low users roles holders keys : List ℕ) (counted wl c : ℕ) → Ready ws low users → Searched (stateOf ws) roles holders → Stand wl (stateOf ws .standing) → c ≡ getD ws 2 0
+    → ((ρ : Roles) → Ranked ρ (take 512 (drop crewStart ws)) (take 512 (drop setsStart ws)) roles users holders c → wl < 2 ^ c → Keyed keys wl (redundancy ρ counted))
+    → Keyed keys wl (redundancy (rolesOf (stateOf ws)) counted)
+pass-keyed ws low users roles holders keys counted wl c ready found inv e filled =
+    filled (rolesOf (stateOf ws)) (ranked (stateOf ws) low roles users holders ws c e (ready .limits) (ready .afresh) (searched-indexed ws low users roles holders ready found) (found .permission-roles)) (rw (e ∙ sym (roles-count ws low users ready 0)) (stand-below ws low users wl ready inv))
+
+pub pass-is : (ws after : List ℕ) (at g : Progress) (w : Weights) (t : model.Tolerance) (counted wl wl' : ℕ) → counted ≡ strikables (rolesOf (stateOf ws)) (stateOf ws .standing)
+    → runAt after g wl' ≡ takeUpAll (rolesOf (stateOf ws)) w t (redundancy (rolesOf (stateOf ws)) counted) (ones wl) wl (runAt ws at wl)
+    → runAt after g wl' ≡ model.pass (rolesOf (stateOf ws)) w t (runAt ws at wl)
+unfolding model.pass runAt
+pass-is ws after at g w t counted wl wl' e h = h ∙ ap (λ (s : ℕ). takeUpAll (rolesOf (stateOf ws)) w t (redundancy (rolesOf (stateOf ws)) s) (ones wl) wl (runAt ws at wl)) e

@@ -1,0 +1,97 @@
+// All passes.
+ghost use mathlib.Core.Path.{_≡_};
+ghost use mathlib.Core.Bool.{So};
+ghost use Prim.Native.Nat.{ℕ, _≤_};
+ghost use lib.ListN.{length};
+ghost use Rattle.model.specs.Machine.{eliminated, toleranceAllowed};
+ghost use Rattle.model.specs.Quality.{weightsAllowed, quality};
+ghost use Rattle.model.specs.Record.{recordLength, stateOf};
+ghost use Rattle.model.specs.State.{rolesOf};
+ghost use Rattle.tables.specs.Tables.{Holds};
+ghost use Rattle.model.specs.Indexes.{rolesOfUser};
+ghost use Rattle.trials.specs.Trying.{weightsIn, runAt, Kin, Ready, Exact, Going};
+ghost use Rattle.eliminating.specs.Passing.{toleranceIn, Searched, Ended};
+use crate::pass::pass;
+use crate::turn::Tolerance;
+use coverage::fill_holders;
+use ordering::strikable_roles;
+use reading::Counts;
+use reading::weigh;
+use records::PERMISSIONS;
+use records::SETS;
+use sets::Set256;
+use trials::Progress;
+use trials::Weights;
+
+// Passes, while the worklist is not empty and the pass before struck something. Each before the last strikes a role, so c + 1 are enough.
+fn run_passes(
+    rec: &mut [u64],
+    low: &[u64],
+    roles: &[u64],
+    users: &[u64],
+    holders: &[u64],
+    w: Weights,
+    t: Tolerance,
+    at: Progress,
+) -> Progress
+    requires { ⌜ (length (now rec) ≡ recordLength) × (length (now low) ≡ 256) × (length (now roles) ≡ 256) × (length (now users) ≡ 256) × (length (now holders) ≡ 512) × Going (now rec) (now low) (now users) at × Searched (stateOf (now rec)) (now roles) (now holders) × So (weightsAllowed (weightsIn w)) × So (toleranceAllowed (toleranceIn t)) × (at .changed ≡ 0) × (at .examined ≡ 0) × (at .quality ≡ quality (rolesOf (stateOf (now rec))) (weightsIn w) (stateOf (now rec) .standing)) × (at .quality ≤ 100000000) ⌝ }
+    ensures { λ r. ⌜ Ready (now (rec .exit)) (now (low .entry)) (now (users .entry)) × Kin (stateOf (now (rec .entry))) (now (rec .exit)) × Ended (now (rec .exit)) r (eliminated (rolesOf (stateOf (now (rec .entry)))) (weightsIn w) (toleranceIn t) (stateOf (now (rec .entry)) .standing)) ⌝ }
+{
+    let mut left = rec[2] as usize + 1;
+    let mut run = at;
+    let mut counted = strikable_roles(rec, roles, holders);
+    let mut worklist = counted;
+    while 0 < left {
+        if worklist.is_empty() {
+            return run;
+        }
+        let turn = pass(
+            rec,
+            low,
+            roles,
+            users,
+            holders,
+            w,
+            t,
+            counted,
+            worklist,
+            run,
+        );
+        let next = turn.progress;
+        if next.changed == run.changed {
+            return next;
+        }
+        run = next;
+        worklist = turn.worklist;
+        counted = strikable_roles(rec, roles, holders);
+        left -= 1;
+    }
+    run
+}
+
+// The elimination of a record whose indexes and counts these are.
+pub fn eliminate_all(
+    rec: &mut [u64],
+    low: &[u64],
+    roles: &[u64],
+    users: &[u64],
+    w: Weights,
+    t: Tolerance,
+    counts: Counts,
+) -> Progress
+    requires { ⌜ (length (now rec) ≡ recordLength) × (length (now low) ≡ 256) × (length (now roles) ≡ 256) × (length (now users) ≡ 256) × Ready (now rec) (now low) (now users) × Holds 2 (stateOf (now rec) .users) (rolesOfUser (rolesOf (stateOf (now rec)))) (now roles) × Exact (now rec) counts × So (weightsAllowed (weightsIn w)) × So (toleranceAllowed (toleranceIn t)) ⌝ }
+    ensures { λ r. ⌜ Ready (now (rec .exit)) (now (low .entry)) (now (users .entry)) × Kin (stateOf (now (rec .entry))) (now (rec .exit)) × Ended (now (rec .exit)) r (eliminated (rolesOf (stateOf (now (rec .entry)))) (weightsIn w) (toleranceIn t) (stateOf (now (rec .entry)) .standing)) ⌝ }
+{
+    let c = rec[2] as usize;
+    let m = rec[1] as usize;
+    let mut holders = [0u64; 512];
+    fill_holders(&rec[SETS..PERMISSIONS], c, Set256::below(m), &mut holders);
+    let quality = weigh(counts, w.role, w.member, w.permission, w.link);
+    let start = Progress {
+        counts,
+        quality,
+        changed: 0,
+        examined: 0,
+    };
+    run_passes(rec, low, roles, users, &holders, w, t, start)
+}

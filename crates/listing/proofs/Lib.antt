@@ -1,0 +1,4 @@
+pub mod Puts
+pub mod Rendered
+pub mod Read
+pub mod Sample

@@ -1,0 +1,105 @@
+-- The fields of a line, one after another.
+-- Assumes nothing.
+use borrow.Author.Needs.{needs}
+use native.Mathlib.Omega.{arith}
+use Rattle.text.proofs.Decimals.{length-decimal}
+use Rattle.listing.proofs.Puts.{sized-put, line-put}
+use Rattle.listing.proofs.lines.put_line.Statement.{statement}
+use Rattle.listing.proofs.lines.put_line.Tie as tie
+
+put-decimal-requires : tie.Need-put-decimal-requires
+put-decimal-requires c κs = omega (arith, length-decimal (c .before .before .before .args .k))
+
+mul-put-set256 : tie.Need-mul-put-set256
+mul-put-set256 c = search needs
+
+add-put-set256 : tie.Need-add-put-set256
+add-put-set256 c = search needs
+
+shared-slice-read-put-set256 : tie.Need-shared-slice-read-put-set256
+shared-slice-read-put-set256 c = search needs
+
+put-set256-requires : tie.Need-put-set256-requires
+put-set256-requires c κs =
+    (omega arith, c .before .before .before .before .before .before .before .before .pre .0 .permissions, omega (arith, length-decimal (c .before .before .before .before .before .before .before .before .args .k)))
+
+mul-put-set256-2 : tie.Need-mul-put-set256-2
+mul-put-set256-2 c = search needs
+
+add-put-set256-2 : tie.Need-add-put-set256-2
+add-put-set256-2 c = search needs
+
+shared-slice-read-put-set256-2 : tie.Need-shared-slice-read-put-set256-2
+shared-slice-read-put-set256-2 c = search needs
+
+put-set256-requires-2 : tie.Need-put-set256-requires-2
+put-set256-requires-2 c κs =
+    (omega arith, c .before .before .before .before .before .before .before .before .before .before .before .before .before .pre .0 .permissions, omega (arith, length-decimal (c .before .before .before .before .before .before .before .before .before .before .before .before .before .args .k)))
+
+mul-put-set128 : tie.Need-mul-put-set128
+mul-put-set128 c = search needs
+
+add-put-set128 : tie.Need-add-put-set128
+add-put-set128 c = search needs
+
+shared-slice-read-put-set128 : tie.Need-shared-slice-read-put-set128
+shared-slice-read-put-set128 c = search needs
+
+put-set128-requires : tie.Need-put-set128-requires
+put-set128-requires c κs =
+    (omega arith, c .before .before .before .before .before .before .before .before .before .before .before .before .before .before .before .before .before .before .pre .0 .users, omega (arith, length-decimal (c .before .before .before .before .before .before .before .before .before .before .before .before .before .before .before .before .before .before .args .k)))
+
+mul-put-set128-2 : tie.Need-mul-put-set128-2
+mul-put-set128-2 c = search needs
+
+add-put-set128-2 : tie.Need-add-put-set128-2
+add-put-set128-2 c = search needs
+
+candidates-requires : tie.Need-candidates-requires
+candidates-requires c κs = search needs
+
+put-set128-requires-2 : tie.Need-put-set128-requires-2
+put-set128-requires-2 c κs =
+    (omega arith, omega (arith, c .before .before .before .before .before .before .before .before .before .before .before .before .before .before .before .before .before .before .before .before .before .before .before .pre .0 .candidates), omega (arith, length-decimal (c .before .before .before .before .before .before .before .before .before .before .before .before .before .before .before .before .before .before .before .before .before .before .before .args .k)))
+
+slice-aggregate-put-bytes : tie.Need-slice-aggregate-put-bytes
+slice-aggregate-put-bytes c = search needs
+
+put-bytes-requires : tie.Need-put-bytes-requires
+put-bytes-requires c κs =
+    omega (arith, length-decimal (c .before .before .before .before .before .before .before .before .before .before .before .before .before .before .before .before .before .before .before .before .before .before .before .before .before .before .before .before .args .k))
+
+same-length : tie.Need-same-length
+same-length c = search needs
+
+returns : tie.Need-returns
+returns c =
+    line-put _ _ _ _ _ _ _ _ _ _ _ _ _ _ _ _ (c .before .before .before .before .before .before .before .before .before .before .before .before .before .before .before .before .before .before .before .before .before .before .before .before .before .before .before .put-decimal .ensures)
+    (c .before .before .before .before .before .before .before .before .before .before .before .before .before .before .before .before .before .before .before .before .before .before .put-set256 .ensures .0, c .before .before .before .before .before .before .before .before .before .before .before .before .before .before .before .before .before .before .before .before .before .before .put-set256 .ensures .1) (c .before .before .before .before .before .before .before .before .before .before .before .before .before .before .before .before .before .put-set2562 .ensures .0, c .before .before .before .before .before .before .before .before .before .before .before .before .before .before .before .before .before .put-set2562 .ensures .1) (c .before .before .before .before .before .before .before .before .before .before .before .before .put-set128 .ensures .0, c .before .before .before .before .before .before .before .before .before .before .before .before .put-set128 .ensures .1)
+    (sized-put _ _ _ _ _ _ _ (c .before .before .before .before .before .before .before .before .before .candidates .ensures) (c .before .before .before .before .before .before .before .put-set1282 .ensures .0, c .before .before .before .before .before .before .before .put-set1282 .ensures .1)) (c .before .before .put-bytes .ensures)
+
+pub put-line-spec : {M : Type 1} → statement M
+put-line-spec =
+    tie.close
+    (tie.spec
+    put-decimal-requires
+    mul-put-set256
+    add-put-set256
+    shared-slice-read-put-set256
+    put-set256-requires
+    mul-put-set256-2
+    add-put-set256-2
+    shared-slice-read-put-set256-2
+    put-set256-requires-2
+    mul-put-set128
+    add-put-set128
+    shared-slice-read-put-set128
+    put-set128-requires
+    mul-put-set128-2
+    add-put-set128-2
+    candidates-requires
+    put-set128-requires-2
+    slice-aggregate-put-bytes
+    put-bytes-requires
+    same-length
+    returns)

@@ -1,0 +1,35 @@
+-- The line of a role that stands, and nothing else.
+-- Assumes nothing.
+-- The line of a role that stands, and nothing else.
+use borrow.Author.Needs.{needs}
+use Rattle.crewtext.proofs.Lines.{said-yes, said-no}
+use mathlib.Core.Path.{_∙_, ap}
+use Rattle.sets.specs.Sets.{has}
+use Rattle.listing.proofs.Puts.{standing-put, absent-put}
+use Rattle.listing.proofs.lines.put_standing.Statement.{statement}
+use Rattle.listing.proofs.lines.put_standing.Tie as tie
+
+load128-requires : tie.Need-load128-requires
+load128-requires c κs = search needs
+
+contains-requires : tie.Need-contains-requires
+contains-requires c κs = search needs
+
+returns : tie.Need-returns
+returns c =
+    absent-put _ _ _ _ (said-no (c .before .contains .ensures ∙ ap (λ s. has s (c .before .before .before .before .before .args .k)) (c .before .before .load128 .ensures)) (c .if1 .taken))
+
+put-line-requires : tie.Need-put-line-requires
+put-line-requires c κs = search needs
+
+same-length : tie.Need-same-length
+same-length c = search needs
+
+returns-2 : tie.Need-returns-2
+returns-2 c =
+    standing-put _ _ _ _ _ _ (said-yes (c .before .before .before .before .before .contains .ensures ∙ ap (λ s. has s (c .before .before .before .before .before .before .before .before .before .args .k)) (c .before .before .before .before .before .before .load128 .ensures)) (c .before .before .before .before .if1 .left)) (c .before .before .put-line .ensures)
+
+pub put-standing-spec : {M : Type 1} → statement M
+put-standing-spec =
+    tie.close
+    (tie.spec load128-requires contains-requires returns put-line-requires same-length returns-2)

@@ -1,0 +1,4 @@
+pub mod Leading
+pub mod Gathering
+pub mod Ranking
+pub mod Facts

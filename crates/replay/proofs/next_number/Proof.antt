@@ -1,0 +1,61 @@
+-- The digits are there.
+-- Assumes nothing.
+use borrow.Author.Needs.{needs}
+use mathlib.Core.Path.{sym, _∙_}
+use native.Mathlib.Omega.{arith}
+use borrow.Author.Tests.{not-false}
+use Rattle.replay.proofs.next_number.Statement.{statement}
+use Rattle.replay.proofs.next_number.Tie as tie
+
+slice-aggregate-read-full : tie.Need-slice-aggregate-read-full
+slice-aggregate-read-full c = search needs
+
+read-full-requires : tie.Need-read-full-requires
+read-full-requires c κs = search needs
+
+returns : tie.Need-returns
+returns c = search needs
+
+array-read-if2 : tie.Need-array-read-if2
+array-read-if2 c = search needs
+
+returns-2 : tie.Need-returns-2
+returns-2 c = search needs
+
+slice-aggregate-has-hexadecimal : tie.Need-slice-aggregate-has-hexadecimal
+slice-aggregate-has-hexadecimal c = search needs
+
+has-hexadecimal-requires : tie.Need-has-hexadecimal-requires
+has-hexadecimal-requires c κs = search needs
+
+returns-3 : tie.Need-returns-3
+returns-3 c = search needs
+
+slice-aggregate-read-hexadecimal : tie.Need-slice-aggregate-read-hexadecimal
+slice-aggregate-read-hexadecimal c = search needs
+
+read-hexadecimal-requires : tie.Need-read-hexadecimal-requires
+read-hexadecimal-requires c κs = (omega arith, sym (c .before .before .has-hexadecimal .ensures) ∙ not-false _ (c .before .if3 .left))
+
+word-requires : tie.Need-word-requires
+word-requires c κs = search needs
+
+returns-4 : tie.Need-returns-4
+returns-4 c = search needs
+
+pub next-number-spec : {M : Type 1} → statement M
+next-number-spec =
+    tie.close
+    (tie.spec
+    slice-aggregate-read-full
+    read-full-requires
+    returns
+    array-read-if2
+    returns-2
+    slice-aggregate-has-hexadecimal
+    has-hexadecimal-requires
+    returns-3
+    slice-aggregate-read-hexadecimal
+    read-hexadecimal-requires
+    word-requires
+    returns-4)

@@ -1,0 +1,51 @@
+ghost use mathlib.Core.Path.{_≡_};
+ghost use mathlib.Core.Bool.{So};
+ghost use Prim.Native.Nat.{ℕ, _≤_, _<_};
+ghost use lib.ListN.{length, getD};
+ghost use Rattle.model.specs.Machine.{tryRestore};
+ghost use Rattle.model.specs.Quality.{weightsAllowed};
+ghost use Rattle.model.specs.Record.{recordLength, stateOf};
+ghost use Rattle.model.specs.State.{rolesOf};
+ghost use Rattle.trials.specs.Trying.{weightsIn, runAt, Kin, Going};
+use editing::STANDING;
+use editing::take_out;
+use reading::weigh;
+use tables::load128;
+use trials::Progress;
+use trials::Weights;
+use trials::restore_counted;
+
+// Takes up the candidate k, where it is absent: it is put back, and stays where the quality is then strictly smaller.
+pub fn try_restore(
+    rec: &mut [u64],
+    low: &[u64],
+    users: &[u64],
+    w: Weights,
+    k: usize,
+    at: Progress,
+) -> Progress
+    requires { ⌜ (length (now rec) ≡ recordLength) × (length (now low) ≡ 256) × (length (now users) ≡ 256) × (k < getD (now rec) 2 0) × Going (now rec) (now low) (now users) at × So (weightsAllowed (weightsIn w)) × (at .changed ≤ 100000) × (at .examined ≤ 100000) ⌝ }
+    ensures { λ r. ⌜ Going (now (rec .exit)) (now (low .entry)) (now (users .entry)) r × Kin (stateOf (now (rec .entry))) (now (rec .exit)) × ((worklist : ℕ) → runAt (now (rec .exit)) r worklist ≡ tryRestore (rolesOf (stateOf (now (rec .entry)))) (weightsIn w) k (runAt (now (rec .entry)) at worklist)) ⌝ }
+{
+    if load128(rec, STANDING).contains(k) {
+        return at;
+    }
+    let before = at.counts;
+    let counts = restore_counted(rec, low, users, before, k);
+    let quality = weigh(counts, w.role, w.member, w.permission, w.link);
+    if quality < at.quality {
+        return Progress {
+            counts,
+            quality,
+            changed: at.changed + 1,
+            examined: at.examined + 1,
+        };
+    }
+    take_out(rec, low, users, k);
+    Progress {
+        counts: before,
+        quality: at.quality,
+        changed: at.changed,
+        examined: at.examined + 1,
+    }
+}

@@ -1,0 +1,4 @@
+pub mod Sums
+pub mod Correcting
+pub mod Moving
+pub mod Runs
