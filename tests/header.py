@@ -21,11 +21,11 @@ SLICES = {"&[u64]": ["const uint64_t *", "size_t"], "&mut [u64]": ["uint64_t *",
           "&[u8]": ["const uint8_t *", "size_t"], "&mut [u8]": ["uint8_t *", "size_t"]}
 
 # the header's names for constants of the crates: file, name
-CONSTANTS = {"PANEL_RECORD_WORDS": ("records/src/write.rt", "LENGTH"), "PANEL_AT_CREW": ("records/src/write.rt", "CREW"),
-             "PANEL_AT_SETS": ("records/src/write.rt", "SETS"),
-             "PANEL_AT_PERMISSIONS": ("records/src/write.rt", "PERMISSIONS"),
-             "PANEL_AT_MEMBERS": ("records/src/write.rt", "MEMBERS"),
-             "PANEL_AT_JUNIORS": ("records/src/write.rt", "JUNIORS"),
+CONSTANTS = {"PANEL_RECORD_WORDS": ("tables/src/layout.rt", "LENGTH"), "PANEL_AT_CREW": ("tables/src/layout.rt", "CREW"),
+             "PANEL_AT_SETS": ("tables/src/layout.rt", "SETS"),
+             "PANEL_AT_PERMISSIONS": ("tables/src/layout.rt", "PERMISSIONS"),
+             "PANEL_AT_MEMBERS": ("tables/src/layout.rt", "MEMBERS"),
+             "PANEL_AT_JUNIORS": ("tables/src/layout.rt", "JUNIORS"),
              "PANEL_ROWS_WORDS": ("crewtext/src/lib.rt", "BUFFER"),
              "PANEL_TEXT_BYTES": ("crewtext/src/lib.rt", "LONGEST")}
 
@@ -143,7 +143,7 @@ def main():
     for compiler, _, remedy in COMPILERS:
         if shutil.which(compiler) is None:
             sys.exit("tests/header.py: %s is missing: %s" % (compiler, remedy))
-    sources = [source for name in ("panel", "calls", "crewtext") for source in sorted((ROOT / "crates" / name / "src").glob("*.rt"))]
+    sources = [source for name in ("panel", "call_*", "crewtext") for source in sorted((ROOT / "crates").glob(name + "/src/*.rt"))]
     crate, header = exported(sources), declared()
     faults = list(differences(crate, header))
     for compiler, words, _ in COMPILERS if not faults else ():

@@ -107,8 +107,8 @@ class Run:
             record[place] = value
             self.say("word", (place, value), self.both(record))
 
-    def turned(self, *places_and_bits):
-        for place, bit in places_and_bits:
+    def turned(self, bit, *places):
+        for place in places:
             self.changed(place, self.record[place] ^ 1 << bit)
 
     def front(self, record, length):
@@ -155,12 +155,12 @@ def damaging(run):
     run.changed(0, 0, 1, 2, 4, 128, 129, 2 ** 32 + 3, FAR, FAR + 3, 2 ** 64 - 1)
     run.changed(1, 0, 1, 2, 4, 256, 257, 2 ** 32 + 3, FAR, FAR + 3, 2 ** 64 - 1)
     run.changed(2, 0, 3, 5, 128, 2 ** 32 + 4, FAR)
-    run.turned((4, 0), (4, 3), (4, 4), (4, 63), (5, 0), (5, 63), (3, 0), (3, 63), (6, 0), (6, 63), (7, 0), (7, 63))
-    run.turned((8, 2), (8, 3), (9, 0), (11, 63), (16, 0), (19, 63), (20, 0), (23, 63), (516, 0), (519, 63))
-    run.turned((520, 0), (523, 63), (532, 2), (536, 0), (1028, 0), (1031, 63))
-    run.turned((1032, 1), (1035, 63), (1044, 0), (1048, 0), (1540, 0), (1543, 63))
-    run.turned((1544, 0), (1545, 63), (1550, 2), (1552, 0), (1798, 0), (1799, 63))
-    run.turned((1800, 0), (1801, 63), (1806, 1), (1808, 0), (2054, 0), (2055, 63))
+    run.turned(0, 3, 4, 5, 6, 7, 9, 16, 20, 516, 520, 536, 1028, 1044, 1048, 1540, 1544, 1552, 1798, 1800, 1808, 2054)
+    run.turned(63, 3, 4, 5, 6, 7, 11, 19, 23, 519, 523, 1031, 1035, 1543, 1545, 1799, 1801, 2055)
+    run.turned(3, 4, 8)
+    run.turned(4, 4)
+    run.turned(2, 8, 532, 1550)
+    run.turned(1, 1032, 1806)
     run.record[7] = 1
     run.weighed(1001, 0, 0, 0)
     run.asked(3, 3)
@@ -168,24 +168,30 @@ def damaging(run):
     run.whole()
     run.mined(33, lacking(7))
     run.changed(2, 125, 127)
-    run.turned((5, 61), (5, 62), (5, 63), (1024, 0))
+    for bit in (61, 62, 63):
+        run.turned(bit, 5)
+    run.turned(0, 1024)
     run.whole()
     run.mined(34, MOST)
     run.changed(2, 127, 129)
-    run.turned((5, 63), (1028, 0), (1540, 0), (1798, 0), (2055, 62))
+    run.turned(0, 1028, 1540, 1798)
+    run.turned(63, 5)
+    run.turned(62, 2055)
     run.whole()
     run.mined(35, FULL)
     run.changed(0, 127, 129)
     run.changed(1, 192, 193, 257)
-    run.turned((519, 0), (1545, 63))
+    run.turned(0, 519)
+    run.turned(63, 1545)
     run.mined(36, WIDE[129])
     run.changed(1, 128, 130)
-    run.turned((10, 0), (10, 1), (11, 0), (522, 0), (1034, 0))
+    run.turned(0, 10, 11, 522, 1034)
+    run.turned(1, 10)
     run.mined(37, (3, 4, [0, 0, 0]))
     run.changed(0, 0, 1, 128, 129)
     run.changed(1, 0, 1, 256, 257)
     run.changed(2, 1)
-    run.turned((4, 0), (8, 0), (1544, 0))
+    run.turned(0, 4, 8, 1544)
     run.whole()
 
 
@@ -255,8 +261,22 @@ def editing(run):
         run.reviewed(1)
 
 
+def reading(run):
+    """The reader's limits of n and m, a digit with a bit at m, and each fault of form once."""
+    everyone = b"".join(b"%d,%d\n" % (u, u < 127) for u in range(128))
+    texts = [b"crew,128,1\n" + everyone, b"crew,129,1\n", b"crew,0,1\n", b"crew,1,256\n0,8" + b"0" * 62 + b"1\n", b"crew,1,257\n", b"crew,1,0\n",
+             b"crew,1,3\n0,7\n", b"crew,1,3\n0,8\n", b"crew,3,3\n0,3\n1,6\n2,7\n", b"crew,2,5\n0,1f\n1,20\n",
+             b"", b"Crew,1,3\n0,7\n", b"crew;1,3\n0,7\n", b"crew,,3\n0,7\n", b"crew,01,3\n0,7\n", b"crew,1000,3\n0,7\n", b"crew,1;3\n0,7\n",
+             b"crew,1,3 \n0,7\n", b"crew,1,3", b"crew,0,3;",
+             b"crew,1,3\n", b"crew,1,3\n1,7\n", b"crew,1,3\n00,7\n", b"crew,1,3\n0;7\n", b"crew,1,4\n0,A\n", b"crew,1,3\n0,\n",
+             b"crew,1,3\n0,07\n", b"crew,1,3\n0,7", b"crew,1,3\n0,7;", b"crew,1,3\n0,7\n\n", b"crew,1,3\n0,8;"]
+    for text, length in [(text, model.BUFFER) for text in texts] + [(b"crew,1,0\n", model.BUFFER - 1)]:
+        code, n, m, words = model.read_crew(text, [5] + [0] * (length - 2) + [9])
+        run.say("read", (), (code, n, m, digest(words)))
+
+
 def lines():
     run = Run()
-    for part in (mining, asking, damaging, lengths, standing_sets, editing):
+    for part in (mining, asking, damaging, lengths, standing_sets, editing, reading):
         part(run)
     return run.lines

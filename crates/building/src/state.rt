@@ -12,7 +12,7 @@ ghost use Rattle.model.proofs.Record.{Limits};
 ghost use Rattle.tables.specs.Tables.{Holds};
 ghost use Rattle.building.specs.Tables.{Source, Indexed, Built, Zeros};
 use crate::index::fill_roles;
-use hierarchy::fill_columns;
+use columns::fill_columns;
 use hierarchy::fill_juniors;
 use hierarchy::fill_lower;
 use hierarchy::fill_members;

@@ -28,7 +28,8 @@ use Rattle.crewtext.specs.declared.header.Header.the-variants.{Crew, Mal
 use Rattle.crewtext.specs.declared.row.Row.{Row}
 use Rattle.crewtext.specs.declared.row.Row.the-variants.{Digits, Broken}
 use Rattle.crewtext.specs.Reader.{headerAt, rowAt, Read, rowsRead, badForm, badBit, withRow, nextRow, rowsTo, laid, Answer, refusal, afterRows, readCrew}
-use Rattle.crewtext.proofs.Lines.{limits-iff, limits-kept, header-whole, row-whole}
+use Rattle.model.proofs.Record.{withinLimits-iff}
+use Rattle.crewtext.proofs.Lines.{limits-kept, header-whole, row-whole}
 use Rattle.crewtext.proofs.Forms.{header-form, row-form}
 use Rattle.crewtext.proofs.Laid.{getD-laid}
 use Rattle.crewtext.proofs.Answers.{wrong-buffer, too-long, by-crew, by-malformed, by-beyond}
@@ -88,7 +89,7 @@ module _ (text : List ℕ) (n m : ℕ) (l : So (withinLimits n m)) (h : So (hold
   header-read : headerAt text ≡ Crew n m (length (headerLine n m))
   unfolding headerLine
   header-read =
-      let k = limits-iff n m l in
+      let k = withinLimits-iff n m .0 l in
       let ln : n ≤ 128 = k .1 in
       let lm : m ≤ 256 = k .3 in
       let a = holds-append text 0 crewWord (decimal n ++ (comma ++ (decimal m ++ lineEnd))) .0 h in
@@ -99,7 +100,7 @@ module _ (text : List ℕ) (n m : ℕ) (l : So (withinLimits n m)) (h : So (hold
       decimal-reads text 5 n (omega arith) (b .0) (comma-parts text (5 + length (decimal n)) (c .0)) in
       let q : decimalAt text (5 + length (decimal n) + 1) ≡ Number m (5 + length (decimal n) + 1 + length (decimal m)) =
       decimal-reads text (5 + length (decimal n) + 1) m (omega arith) (d .0) (line-parts text (5 + length (decimal n) + 1 + length (decimal m)) (d .1)) in
-      sym (header-whole text (a .0) p (c .0) q (d .1)) ∙ sym (limits-kept n m (5 + length (decimal n) + 1 + length (decimal m) + 1) (k .0) ln (k .2) lm)
+      sym (header-whole text (a .0) p (c .0) q (d .1)) ∙ sym (limits-kept n m (5 + length (decimal n) + 1 + length (decimal m) + 1) l)
       ∙ ap (Crew n m) (sym (length-header n m))
 
 module _ (text : List ℕ) (m u at s : ℕ) (l : u < 1000) (b : s < 2 ^ m) (h : So (holds text at (rowLine m u s))) where
@@ -151,7 +152,7 @@ pub read-back : (n m : ℕ) (rows buffer : List ℕ) → So (withinLimits n m) �
     → readCrew (crewText n m rows) buffer ≡ record { code = 0; n = n; m = m; words = laid rows }
 unfolding crewText rowsWithin
 read-back n m rows buffer l c w b =
-    let k = limits-iff n m l in
+    let k = withinLimits-iff n m .0 l in
     let ln : n ≤ 128 = k .1 in
     let lm : m ≤ 256 = k .3 in
     let a = holds-append (headerLine n m ++ rowLines m rows n) 0 (headerLine n m) (rowLines m rows n) .0 (holds-self (headerLine n m ++ rowLines m rows n)) in
@@ -170,7 +171,7 @@ read-back n m rows buffer l c w b =
 pub words-hold : (n m : ℕ) (rows : List ℕ) → So (withinLimits n m) → length rows ≡ n → So (rowsWithin m rows) → rowsAt n (laid rows) 0 ≡ rows
 unfolding rowsWithin
 words-hold n m rows l c w =
-    let k = limits-iff n m l in
+    let k = withinLimits-iff n m .0 l in
     let ln : n ≤ 128 = k .1 in
     let lm : m ≤ 256 = k .3 in
     ext-getD 0 (rowsAt n (laid rows) 0) rows (length-rowsAt n (laid rows) 0 ∙ sym c)

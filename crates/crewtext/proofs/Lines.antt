@@ -30,21 +30,13 @@ said-yes {r} e h = sym e ∙ not-false r h
 
 -- ---- limits
 
-pub limits-iff : (n m : ℕ) → So (withinLimits n m) → (1 ≤ n) × (n ≤ 128) × (1 ≤ m) × (m ≤ 256)
-unfolding withinLimits
-limits-iff n m s = let k : (((1 ≤ n) × (n ≤ 128)) × (1 ≤ m)) × (m ≤ 256) = simp reflect at s in (k .0 .0 .0, k .0 .0 .1, k .0 .1, k .1)
-
-pub limits-of : (n m : ℕ) → 1 ≤ n → n ≤ 128 → 1 ≤ m → m ≤ 256 → So (withinLimits n m)
-unfolding withinLimits
-limits-of n m a b c d = simp reflect (((a, b), c), d)
-
-pub limits-broken : (n m next : ℕ) → (((1 ≤ n) × (n ≤ 128) × (1 ≤ m) × (m ≤ 256)) → ⊥) → Beyond ≡ limited n m next
+pub limits-broken : (n m next : ℕ) → withinLimits n m ≡ false → Beyond ≡ limited n m next
 unfolding limited
-limits-broken n m next h = sym (if-false (withinLimits n m) (Crew n m next) Beyond (not-So (withinLimits n m) (λ s. h (limits-iff n m s))))
+limits-broken n m next h = sym (if-false (withinLimits n m) (Crew n m next) Beyond h)
 
-pub limits-kept : (n m next : ℕ) → 1 ≤ n → n ≤ 128 → 1 ≤ m → m ≤ 256 → Crew n m next ≡ limited n m next
+pub limits-kept : (n m next : ℕ) → So (withinLimits n m) → Crew n m next ≡ limited n m next
 unfolding limited
-limits-kept n m next a b c d = sym (if-true (withinLimits n m) (Crew n m next) Beyond (limits-of n m a b c d))
+limits-kept n m next h = sym (if-true (withinLimits n m) (Crew n m next) Beyond h)
 
 -- ---- the header, from the front
 

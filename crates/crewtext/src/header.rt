@@ -1,6 +1,7 @@
 // The first line: `crew,n,m`.
 ghost use mathlib.Core.Path.{_≡_};
 ghost use Rattle.crewtext.specs.Reader.{headerAt, limited};
+use tables::limits_kept;
 use text::Decimal;
 use text::holds;
 use text::read_decimal;
@@ -16,16 +17,7 @@ pub enum Header {
 fn limits(n: u64, m: u64, next: usize) -> Header
     ensures { λ r. ⌜ r ≡ limited n m next ⌝ }
 {
-    if n < 1 {
-        return Header::Beyond;
-    }
-    if 128 < n {
-        return Header::Beyond;
-    }
-    if m < 1 {
-        return Header::Beyond;
-    }
-    if 256 < m {
+    if !limits_kept(n, m) {
         return Header::Beyond;
     }
     Header::Crew { n, m, next }

@@ -1,7 +1,7 @@
 -- What differs between the building with a role and that without, and the two changes.
 -- Assumes nothing.
 use mathlib.Core.Path.{_≡_, refl, sym, _∙_, ap}
-use mathlib.Core.Bool.{Bool, false, So}
+use mathlib.Core.Bool.{false, So}
 use mathlib.Core.Logic.{_≢_, _⊎_, ⊎-elim}
 use mathlib.Core.List.{List}
 use Prim.Native.Nat.{ℕ, _+_, _*_, _^_, _≤_, _<_}
@@ -11,20 +11,19 @@ use lib.ListN.{getD, take, drop}
 use Rattle.sets.specs.Truth.{if_then_else_}
 use Rattle.sets.specs.Sets.{has, _∪_, _∖_, single, collect}
 use Rattle.sets.proofs.Truth.{ltb-iff, if-true}
-use Rattle.sets.proofs.Items.{same-set}
 use Rattle.sets.proofs.Order.{collect-iff, ∪-iff, single-iff, single-lt, has-with, with-without, ∪-lt, ∖-lt}
 use Rattle.model.specs.Lists.{setAt}
 use Rattle.model.specs.Hierarchy.{Roles, candidateCount, immediatelySenior, immediateJuniors}
 use Rattle.model.specs.Indexes.{lower}
 use Rattle.model.specs.Record.{juniorsStart, built}
 use Rattle.model.specs.State.{State, rolesOf, standingNow}
-use Rattle.model.specs.Altered.{concerned, Altered}
+use Rattle.model.specs.Altered.{Altered}
 use Rattle.model.proofs.Reading.{Ordered, immediate-iff, junior-iff}
 use Rattle.model.proofs.Building.{stands-below, senior-stands}
 use Rattle.model.proofs.Changes.{restored-ordered, juniors-same, permissions-same, members-same}
 use Rattle.model.proofs.Record.{Limits, built-word, word-juniors, juniors-small, read-count, read-standing}
 use Rattle.model.proofs.Steps.{limits-ordered, limits-now}
-use Rattle.model.proofs.Altered.{concerned-iff, strike-altered, restore-altered}
+use Rattle.model.proofs.Altered.{strike-altered, restore-altered}
 use Rattle.tables.specs.Tables.{Holds}
 use Rattle.hierarchy.specs.Tables.{Numbered}
 use Rattle.hierarchy.proofs.Building.{seniors-same}
@@ -101,7 +100,7 @@ module _ (st : State) (lim : Limits st) (ws : List ℕ) (e : ws ≡ built st) wh
   juniors-read k small = region-read 2 juniorsStart k (immediateJuniors (rolesOf st) (st .standing)) ws small (juniors-small st lim k) juniors-held
 
 -- the standing set with k put into it
-put-standing : (st : State) → Limits st → (ws : List ℕ) → ws ≡ built st → (k : ℕ) → k < 128 → (r R : ℕ) → r ≡ setAt 2 ws 4
+pub put-standing : (st : State) → Limits st → (ws : List ℕ) → ws ≡ built st → (k : ℕ) → k < 128 → (r R : ℕ) → r ≡ setAt 2 ws 4
     → R ≡ (if ltb k 128 then r ∪ single k else r) → R ≡ st .standing ∪ single k
 put-standing st lim ws e k small r R er eR =
     eR ∙ if-true (ltb k 128) (r ∪ single k) r (ltb-iff k 128 .1 small) ∙ ap (λ (z : ℕ). z ∪ single k) (er ∙ standing-read st lim ws e)
@@ -115,17 +114,16 @@ Changed ws low users after c R x y =
     → Indexed st low roles users → Differ (rolesOf st) (st .standing) R x y → after ≡ built (standingNow st R)
 
 module _ (st : State) (lim : Limits st) (roles ws low users after : List ℕ) (e : ws ≡ built st) (ix : Indexed st low roles users) (k : ℕ) (small : k < 128) where
-  pub taken-out : (r R s x t y : ℕ) → r ≡ setAt 2 ws 4 → R ≡ r ∖ single k
-      → s ≡ collect (getD ws 2 0) (λ i. has (setAt 2 (take 256 (drop juniorsStart ws)) (2 * i)) k) → t ≡ setAt 2 ws (juniorsStart + 2 * k)
-      → x ≡ (if ltb k 128 then s ∪ single k else s) → y ≡ (if ltb k 128 then t ∪ single k else t)
-      → Changed ws low users after (getD ws 2 0) R x y → So (has (st .standing) k) → after ≡ built (standingNow st (st .standing ∖ single k))
-  taken-out r R s x t y er eR es et ex ey changed stands =
+  pub taken-at : (r R s x t y : ℕ) → r ≡ setAt 2 ws 4 → R ≡ r ∖ single k → x ≡ (if ltb k 128 then s ∪ single k else s)
+      → y ≡ (if ltb k 128 then t ∪ single k else t) → Changed ws low users after (getD ws 2 0) R x y → So (has (st .standing) k)
+      → s ≡ collect (candidateCount (rolesOf st)) (λ i. has (immediateJuniors (rolesOf st) (st .standing) i) k)
+      → t ≡ immediateJuniors (rolesOf st) (st .standing) k → after ≡ built (standingNow st (st .standing ∖ single k))
+  taken-at r R s x t y er eR ex ey changed stands es et =
       let ρ = rolesOf st in
       let Q = st .standing in
       let o = limits-ordered st lim in
       let new : R ≡ Q ∖ single k = eR ∙ ap (λ (z : ℕ). z ∖ single k) (er ∙ standing-read st lim ws e) in
-      let d = differ-out ρ Q k o stands s x t y small (es ∙ seniors-read st lim ws e (getD ws 2 0) (count st lim ws e) k) ex
-      (et ∙ juniors-read st lim ws e k small) ey in
+      let d = differ-out ρ Q k o stands s x t y small es ex et ey in
       changed st roles lim (count st lim ws e) (rw new (∖-lt (candidateCount ρ) Q (single k) (lim .standing-below))) e ix (rw new d) ∙ ap (λ (z : ℕ). built (standingNow st z)) new
 
   pub put-at : (r R s x t y : ℕ) → r ≡ setAt 2 ws 4 → R ≡ (if ltb k 128 then r ∪ single k else r)
@@ -151,55 +149,14 @@ module _ (st : State) (lim : Limits st) (ws low : List ℕ) (e : ws ≡ built st
       rw (put-standing st lim ws e k small r R er eR) (∪-lt c (st .standing) (single k) (lim .standing-below) (single-lt c k lk))
 
   pub put-seniors : (s : ℕ)
-      → ((ρ : Roles) → Numbered ρ → candidateCount ρ ≡ getD ws 2 0 → Holds 2 (candidateCount ρ) (lower ρ) low → R < 2 ^ candidateCount ρ → s ≡ collect (candidateCount ρ) (λ i. has (immediateJuniors ρ R i) k))
+      → ((ρ : Roles) → Numbered ρ → Holds 2 (candidateCount ρ) (lower ρ) low → R < 2 ^ candidateCount ρ → s ≡ collect (candidateCount ρ) (λ i. has (immediateJuniors ρ R i) k))
       → s ≡ collect (candidateCount (rolesOf st)) (λ i. has (immediateJuniors (rolesOf st) (st .standing ∪ single k) i) k)
-  put-seniors s es = rw (put-standing st lim ws e k small r R er eR) at (es (rolesOf st) (numbered st lim) (count st lim ws e) held put-below)
+  put-seniors s es = rw (put-standing st lim ws e k small r R er eR) at (es (rolesOf st) (numbered st lim) held put-below)
 
   pub put-juniors : (t : ℕ)
       → ((ρ : Roles) → Numbered ρ → Holds 2 (candidateCount ρ) (lower ρ) low → R < 2 ^ candidateCount ρ → t ≡ immediateJuniors ρ R k)
       → t ≡ immediateJuniors (rolesOf st) (st .standing ∪ single k) k
   put-juniors t et = rw (put-standing st lim ws e k small r R er eR) at (et (rolesOf st) (numbered st lim) held put-below)
-
--- ---- the neighbours themselves
-
-pub neighbours-found : (st : State) (c k s t u r : ℕ) (ws : List ℕ) → k < 128 → s ≡ collect c (λ i. has (setAt 2 (take 256 (drop juniorsStart ws)) (2 * i)) k)
-    → t ≡ setAt 2 ws (juniorsStart + 2 * k) → u ≡ s ∪ t → r ≡ (if ltb k 128 then u ∪ single k else u) → Limits st → candidateCount (rolesOf st) ≡ c
-    → ws ≡ built st → k < candidateCount (rolesOf st) → r ≡ collect (candidateCount (rolesOf st)) (λ i. concerned (rolesOf st) (st .standing) k i)
-neighbours-found st c k s t u r ws small es et eu er lim count e lk =
-    let ρ = rolesOf st in
-    let Q = st .standing in
-    let o = limits-ordered st lim in
-    let upper : ℕ → Bool = λ i. has (immediateJuniors ρ Q i) k in
-    let test : ℕ → Bool = λ i. concerned ρ Q k i in
-    let seniors : s ≡ collect (candidateCount ρ) upper = es ∙ seniors-read st lim ws e c count k in
-    let juniors : t ≡ immediateJuniors ρ Q k = et ∙ juniors-read st lim ws e k small in
-    let all : r ≡ u ∪ single k = er ∙ if-true (ltb k 128) (u ∪ single k) u (ltb-iff k 128 .1 small) in
-    same-set r (collect (candidateCount ρ) test)
-    (λ i h.
-    ⊎-elim
-    (λ a.
-    ⊎-elim
-    (λ b.
-    let d = collect-iff (candidateCount ρ) upper i .0 (rw seniors at b) in
-    collect-iff (candidateCount ρ) test i .1 (d .0, concerned-iff ρ Q k i .1 (_⊎_.inr (_⊎_.inl (junior-iff ρ Q i k .0 (d .1) .1)))))
-    (λ b.
-    let d = junior-iff ρ Q k i .0 (rw juniors at b) in
-    collect-iff (candidateCount ρ) test i .1 (d .0, concerned-iff ρ Q k i .1 (_⊎_.inr (_⊎_.inr (d .1)))))
-    (∪-iff s t i .0 (rw eu at a)))
-    (λ a.
-    let d : k ≡ i = single-iff k i .0 a in
-    collect-iff (candidateCount ρ) test i .1 (rw d at lk, concerned-iff ρ Q k i .1 (_⊎_.inl (sym d)))) (∪-iff u (single k) i .0 (rw all at h)))
-    (λ i h.
-    let a = collect-iff (candidateCount ρ) test i .0 h in
-    rw all
-    (∪-iff u (single k) i .1
-    (⊎-elim (λ d. _⊎_.inr (single-iff k i .1 (sym d)))
-    (λ d.
-    _⊎_.inl
-    (rw eu
-    (∪-iff s t i .1
-    (⊎-elim (λ x. _⊎_.inl (rw seniors (collect-iff (candidateCount ρ) upper i .1 (a .0, junior-iff ρ Q i k .1 (lk, x)))))
-    (λ x. _⊎_.inr (rw juniors (junior-iff ρ Q k i .1 (a .0, x)))) d)))) (concerned-iff ρ Q k i .0 (a .1)))))
 
 -- ---- what follows of every change: only the words that the paper allows are altered
 

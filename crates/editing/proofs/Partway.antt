@@ -8,13 +8,12 @@ use native.Mathlib.Nat.{lt-of-lt-of-le}
 use native.Mathlib.Omega.{arith}
 use lib.Pow.{pow-mono}
 use lib.ListN.{length, getD, take, drop}
-use Rattle.sets.specs.Sets.{has, _∖_, single, collect}
+use Rattle.sets.specs.Sets.{_∖_, single}
 use Rattle.sets.specs.Words.{word}
 use Rattle.sets.proofs.Truth.{either}
 use Rattle.sets.proofs.Items.{digit}
 use Rattle.model.specs.Hierarchy.{Roles, Rows, candidateCount, permissionSet, authorisedUsers, immediateJuniors, directPermissions, directMembers, building}
 use Rattle.model.specs.Indexes.{lower}
-use Rattle.model.specs.Lists.{setAt}
 use Rattle.model.specs.Record.{recordLength, crewStart, setsStart, permissionsStart, membersStart, juniorsStart, headerWord, wordAt, built}
 use Rattle.model.specs.State.{State, rolesOf, standingNow}
 use Rattle.model.proofs.Lists.{tabulate-is}
@@ -24,7 +23,6 @@ use Rattle.tables.specs.Stores.{putAt, wordsOf}
 use Rattle.tables.specs.Tables.{Holds}
 use Rattle.tables.proofs.Stores.{length-wordsOf, length-putAt, putAt-below, putAt-above, stored-word}
 use Rattle.hierarchy.specs.Tables.{Numbered, Narrow}
-use Rattle.hierarchy.proofs.Building.{seniors-same}
 use Rattle.building.specs.Tables.{Indexed}
 use Rattle.building.proofs.Sources.{numbered, narrow}
 use Rattle.editing.specs.Partway.{still, Region, Partway, Differ}
@@ -200,17 +198,16 @@ module _ (old : Rows) (st : State) (lim : Limits st) (p t R : ℕ) (ws : List �
       q .juniors k j lk lj
       ∙ ap (λ (x : ℕ). word x j) (still-none (old .juniors) (immediateJuniors ρ (st .standing)) k ∙ ap (λ (S : ℕ). immediateJuniors ρ S k) same)
 
-  pub lower-rewritten : (c j is ms : ℕ) (users after : List ℕ) → j < 128 → candidateCount ρ ≡ c → Holds 2 (candidateCount ρ) (authorisedUsers ρ) users
-      → is ≡ collect c (λ i. has (setAt 2 (take 256 (drop juniorsStart ws)) (2 * i)) j)
-      → ((ρ : Roles) → Numbered ρ → Narrow ρ → Holds 2 (candidateCount ρ) (authorisedUsers ρ) users → R < 2 ^ candidateCount ρ → is ≡ collect (candidateCount ρ) (λ i. has (immediateJuniors ρ R i) j) → ms ≡ directMembers ρ R j)
+  pub lower-rewritten : (c j ms : ℕ) (users after : List ℕ) → j < 128 → candidateCount ρ ≡ c → Holds 2 (candidateCount ρ) (authorisedUsers ρ) users
+      → ((ρ : Roles) → Numbered ρ → Narrow ρ → candidateCount ρ ≡ c → Holds 2 (candidateCount ρ) (authorisedUsers ρ) users → R < 2 ^ candidateCount ρ → Holds 2 c (immediateJuniors ρ R) (take 256 (drop juniorsStart ws)) → ms ≡ directMembers ρ R j)
       → after ≡ putAt ws (membersStart + 2 * j) (wordsOf 2 ms)
       → Partway old st 0 p t ws → Partway old st 0 p (t ∖ single j) after
-  lower-rewritten c j is ms users after lj count h column members ea q =
+  lower-rewritten c j ms users after lj count h members ea q =
       let few : c ≤ 128 = rw count at (lim .candidates-most) in
       let small : (k : ℕ) → k < c → immediateJuniors ρ R k < 2 ^ 128 = λ k l. subst (λ (S : ℕ). immediateJuniors ρ S k < 2 ^ 128) same (juniors-small st lim k) in
       let held : Holds 2 c (immediateJuniors ρ R) (take 256 (drop juniorsStart ws)) =
       region-holds 2 juniorsStart c 256 (immediateJuniors ρ R) ws refl few small (now-juniors q) in
-      let em = members ρ (numbered st lim) (narrow st lim) h below (column ∙ seniors-same ρ R j c (take 256 (drop juniorsStart ws)) count held) in
+      let em = members ρ (numbered st lim) (narrow st lim) count h below held in
       rw ea (members-stored old st 0 p t j ms ws lj q (em ∙ ap (λ (S : ℕ). directMembers ρ S j) (sym same)))
 
 -- ---- the standing set, the upper rows, the lower rows

@@ -11,17 +11,37 @@ ghost use Rattle.model.specs.Record.{recordLength, built};
 ghost use Rattle.model.specs.State.{State, rolesOf, standingNow};
 ghost use Rattle.model.proofs.Record.{Limits};
 ghost use Rattle.building.specs.Tables.{Indexed};
-use crate::rows::STANDING;
 use crate::rows::rewrite_lowers;
 use crate::rows::rewrite_uppers;
 use crate::seniors::seniors_of;
-use hierarchy::column;
+use columns::column;
 use hierarchy::juniors_of;
-use records::JUNIORS;
-use records::LENGTH;
 use sets::Set128;
+use tables::JUNIORS;
+use tables::LENGTH;
+use tables::STANDING;
 use tables::load128;
 use tables::store128;
+
+// Takes the standing role k out, whose immediate seniors and juniors are these.
+pub fn take_out_at(
+    rec: &mut [u64],
+    low: &[u64],
+    users: &[u64],
+    k: usize,
+    seniors: Set128,
+    juniors: Set128,
+)
+    requires { ⌜ (length (now rec) ≡ recordLength) × (length (now low) ≡ 256) × (length (now users) ≡ 256) × (k < 128) × (getD (now rec) 2 0 ≤ 128) ⌝ }
+    ensures { λ r. ⌜ ((st : State) (roles : List ℕ) → Limits st → now (rec .entry) ≡ built st → Indexed st (now (low .entry)) roles (now (users .entry)) → So (has (st .standing) k) → set128 seniors ≡ collect (candidateCount (rolesOf st)) (λ i. has (immediateJuniors (rolesOf st) (st .standing) i) k) → set128 juniors ≡ immediateJuniors (rolesOf st) (st .standing) k → now (rec .exit) ≡ built (standingNow st (st .standing ∖ single k))) ⌝ }
+{
+    let c = rec[2] as usize;
+    let standing = load128(rec, STANDING);
+    let left = standing.remove(k);
+    store128(rec, STANDING, left);
+    rewrite_uppers(rec, low, left, seniors.insert(k));
+    rewrite_lowers(rec, users, c, left, juniors.insert(k));
+}
 
 // Takes the standing role k out. Its neighbours are those of the building in which it stands, so they are read before anything is written.
 pub fn take_out(rec: &mut [u64], low: &[u64], users: &[u64], k: usize)
@@ -29,13 +49,9 @@ pub fn take_out(rec: &mut [u64], low: &[u64], users: &[u64], k: usize)
     ensures { λ r. ⌜ ((st : State) (roles : List ℕ) → Limits st → now (rec .entry) ≡ built st → Indexed st (now (low .entry)) roles (now (users .entry)) → So (has (st .standing) k) → now (rec .exit) ≡ built (standingNow st (st .standing ∖ single k))) ⌝ }
 {
     let c = rec[2] as usize;
-    let standing = load128(rec, STANDING);
-    let left = standing.remove(k);
     let seniors = column(&rec[JUNIORS..LENGTH], c, k);
     let juniors = load128(rec, JUNIORS + 2 * k);
-    store128(rec, STANDING, left);
-    rewrite_uppers(rec, low, left, seniors.insert(k));
-    rewrite_lowers(rec, users, c, left, juniors.insert(k));
+    take_out_at(rec, low, users, k, seniors, juniors);
 }
 
 // Puts the absent candidate k back, whose immediate seniors and juniors will be these.
@@ -63,10 +79,9 @@ pub fn put_back(rec: &mut [u64], low: &[u64], users: &[u64], k: usize)
     requires { ⌜ (length (now rec) ≡ recordLength) × (length (now low) ≡ 256) × (length (now users) ≡ 256) × (k < 128) × (getD (now rec) 2 0 ≤ 128) ⌝ }
     ensures { λ r. ⌜ ((st : State) (roles : List ℕ) → Limits st → now (rec .entry) ≡ built st → Indexed st (now (low .entry)) roles (now (users .entry)) → k < candidateCount (rolesOf st) → has (st .standing) k ≡ false → now (rec .exit) ≡ built (standingNow st (st .standing ∪ single k))) ⌝ }
 {
-    let c = rec[2] as usize;
     let standing = load128(rec, STANDING);
     let more = standing.insert(k);
-    let seniors = seniors_of(low, c, more, k);
+    let seniors = seniors_of(low, more, k);
     let juniors = juniors_of(low, more, k);
     put_back_at(rec, low, users, k, seniors, juniors);
 }

@@ -1,32 +1,30 @@
 // Rows of a record, computed anew for a standing set and stored.
 ghost use mathlib.Core.Path.{_≡_};
-ghost use Prim.Native.Nat.{ℕ, _+_, _*_, _≤_, _<_};
-ghost use lib.ListN.{length};
+ghost use Prim.Native.Nat.{ℕ, _+_, _*_, _^_, _≤_, _<_};
+ghost use lib.ListN.{length, take, drop};
 ghost use Rattle.sets.specs.Held.{set128};
 ghost use Rattle.sets.specs.Sets.{_∖_, single};
-ghost use Rattle.model.specs.Hierarchy.{Rows, candidateCount, authorisedUsers};
+ghost use Rattle.model.specs.Hierarchy.{Roles, Rows, candidateCount, authorisedUsers, immediateJuniors, directMembers};
 ghost use Rattle.model.specs.Indexes.{lower};
-ghost use Rattle.model.specs.Record.{recordLength};
+ghost use Rattle.model.specs.Record.{recordLength, juniorsStart};
 ghost use Rattle.model.specs.State.{State, rolesOf};
 ghost use Rattle.model.proofs.Record.{Limits};
 ghost use Rattle.tables.specs.Tables.{Holds};
+ghost use Rattle.hierarchy.specs.Tables.{Numbered, Narrow};
 ghost use Rattle.editing.specs.Partway.{Partway};
-use hierarchy::column;
+use columns::column;
 use hierarchy::juniors_of;
 use hierarchy::lowest_item;
 use hierarchy::members_of;
 use hierarchy::permissions_of;
-use records::JUNIORS;
-use records::LENGTH;
-use records::MEMBERS;
-use records::PERMISSIONS;
-use records::SETS;
 use sets::Set128;
+use tables::JUNIORS;
+use tables::LENGTH;
+use tables::MEMBERS;
+use tables::PERMISSIONS;
+use tables::SETS;
 use tables::store128;
 use tables::store256;
-
-// Where the standing set starts.
-pub const STANDING: usize = 4;
 
 // The immediate juniors and direct permissions of role i.
 fn rewrite_upper(rec: &mut [u64], low: &[u64], standing: Set128, i: usize)
@@ -39,17 +37,25 @@ fn rewrite_upper(rec: &mut [u64], low: &[u64], standing: Set128, i: usize)
     store256(rec, PERMISSIONS + 4 * i, permissions);
 }
 
+// The direct members of role j, where the record holds the juniors of the standing set. A role that does not stand has none, so that its seniors
+// are not looked for.
+fn members_at(rec: &[u64], users: &[u64], c: usize, standing: Set128, j: usize) -> Set128
+    requires { ⌜ (length (now rec) ≡ recordLength) × (length (now users) ≡ 256) × (c ≤ 128) × (j < 128) ⌝ }
+    ensures { λ r. ⌜ ((ρ : Roles) → Numbered ρ → Narrow ρ → candidateCount ρ ≡ c → Holds 2 (candidateCount ρ) (authorisedUsers ρ) (now (users .entry)) → set128 standing < 2 ^ candidateCount ρ → Holds 2 c (immediateJuniors ρ (set128 standing)) (take 256 (drop juniorsStart (now (rec .entry)))) → set128 r ≡ directMembers ρ (set128 standing) j) ⌝ }
+{
+    if !standing.contains(j) {
+        return Set128::empty();
+    }
+    members_of(users, column(&rec[JUNIORS..LENGTH], c, j), standing, j)
+}
+
 // The direct members of role j. The juniors that the record holds are those of the standing set already.
 fn rewrite_lower(rec: &mut [u64], users: &[u64], c: usize, standing: Set128, j: usize)
     requires { ⌜ (length (now rec) ≡ recordLength) × (length (now users) ≡ 256) × (c ≤ 128) × (j < 128) ⌝ }
     ensures { λ r. ⌜ ((old : Rows) (st : State) (p t : ℕ) → Limits st → candidateCount (rolesOf st) ≡ c → st .standing ≡ set128 standing → Holds 2 (candidateCount (rolesOf st)) (authorisedUsers (rolesOf st)) (now (users .entry)) → Partway old st 0 p t (now (rec .entry)) → Partway old st 0 p (t ∖ single j) (now (rec .exit))) ⌝ }
 {
-    let seniors = column(&rec[JUNIORS..LENGTH], c, j);
-    store128(
-        rec,
-        MEMBERS + 2 * j,
-        members_of(users, seniors, standing, j),
-    );
+    let members = members_at(rec, users, c, standing, j);
+    store128(rec, MEMBERS + 2 * j, members);
 }
 
 // The immediate juniors and direct permissions of the roles in `roles`.

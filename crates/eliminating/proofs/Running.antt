@@ -31,6 +31,7 @@ use Rattle.tables.specs.Tables.{Holds}
 use Rattle.coverage.specs.Sparing.{HoldsFor}
 use Rattle.coverage.proofs.Sparing.{holders-are}
 use Rattle.editing.proofs.Removing.{sets-read}
+use Rattle.ordering.specs.Ranking.{Ranked}
 use Rattle.trials.specs.declared.progress.Progress.{Progress}
 use Rattle.trials.specs.Trying.{runAt, Kin, Ready, Going}
 use Rattle.trials.proofs.Moving.{roles-count, ready-few}
@@ -179,6 +180,14 @@ module _ (ws low users : List ℕ) (w : Weights) (t : model.Tolerance) where
               quality-small = turn .4;
             }
 
+-- where no role is strikable, the elimination ends as it begins
+pub running-none : (ws low users : List ℕ) (w : Weights) (t : model.Tolerance) (g : Progress) (able : ℕ) → Going ws low users g → able ≡ strikables (rolesOf (stateOf ws)) (stateOf ws .standing) → able ≡ 0
+    → g .changed ≡ 0 → g .examined ≡ 0 → g .quality ≡ quality (rolesOf (stateOf ws)) w (stateOf ws .standing) → g .quality ≤ 100000000
+    → Ready ws low users × Kin (stateOf ws) ws × Ended ws g (eliminated (rolesOf (stateOf ws)) w t (stateOf ws .standing))
+running-none ws low users w t g able going ea none e0 e1 eq few =
+    let left = getD ws 2 0 + 1 in
+    running-empty ws low users w t ws g able able left (running-start ws low users w t g able able left going ea refl e0 e1 eq few refl) (omega arith) none
+
 -- ---- the index of the permissions
 
 pub holders-searched : (ws low users roles holders : List ℕ) (c m s : ℕ) → Ready ws low users → Holds 2 (stateOf ws .users) (rolesOfUser (rolesOf (stateOf ws))) roles
@@ -195,3 +204,16 @@ holders-searched ws low users roles holders c m s ready own ec em es held =
           (collect-iff 256 (λ i. ltb i m) p .1 (let x = ready .limits .permissions-most in omega arith, ltb-iff p m .1 (rw em l))))
           ∙ holders-are (rolesOf st) c p (take 512 (drop setsStart ws)) (roles-count ws low users ready 0 ∙ sym ec) (sets-read st (ready .limits) ws (ready .afresh));
     }
+
+-- ---- what the redundancies are computed from
+
+pub sizes-small : (ws low users : List ℕ) → Ready ws low users → (getD ws 0 0 ≤ 128) × (getD ws 1 0 ≤ 256) × (getD ws 2 0 ≤ 128)
+unfolding stateOf
+sizes-small ws low users ready = (ready .limits .users-most, ready .limits .permissions-most, ready-few ws low users ready)
+
+pub order-ranked : (ws low users roles holders down up : List ℕ) (own first : ℕ) → Ready ws low users → Searched (stateOf ws) roles holders
+    → ((st : State) (users : List ℕ) → Limits st → Indexed st low roles users → Holds 2 (st .permissions) (rolesOfPermission (rolesOf st)) holders → st .users ≡ getD ws 0 0 → st .permissions ≡ getD ws 1 0 → candidateCount (rolesOf st) ≡ getD ws 2 0 → Ranked (rolesOf st) down up own first)
+    → Ranked (rolesOf (stateOf ws)) down up own first
+unfolding stateOf
+order-ranked ws low users roles holders down up own first ready found told =
+    told (stateOf ws) users (ready .limits) (searched-indexed ws low users roles holders ready found) (found .permission-roles) refl refl (roles-count ws low users ready 0)

@@ -5,10 +5,10 @@ use mathlib.Core.Bool.{Bool, true, false, So}
 use mathlib.Core.Logic.{_≢_}
 use mathlib.Core.List.{List}
 use Prim.Native.Nat.{ℕ, zero, suc, _+_, _-_, _*_, _^_, _≤_, _<_}
-use native.Mathlib.Nat.{le-trans}
+use native.Mathlib.Nat.{le-refl, le-trans}
 use native.Mathlib.Omega.{arith}
 use lib.Count.{ones, ones-le}
-use lib.ListN.{getD, take, drop}
+use lib.ListN.{getD, replicate}
 use Rattle.sets.specs.Sets.{has, _∪_, _∖_, single, subset}
 use Rattle.sets.proofs.Truth.{not-So}
 use Rattle.sets.proofs.Items.{below-of-items, item-below}
@@ -19,18 +19,19 @@ use Rattle.model.specs.Quality.{Weights, quality}
 use Rattle.model.specs.Machine as model
 use Rattle.model.specs.Coverage.{strikables}
 use Rattle.model.specs.Machine.{Run, dropped, struck, kept, takeUp, takeUpAll, foremost, redundancy}
-use Rattle.model.specs.Record.{crewStart, setsStart, stateOf}
+use Rattle.model.specs.Record.{stateOf}
 use Rattle.model.specs.State.{State, rolesOf, standingNow}
 use Rattle.model.proofs.Elimination.{take-up, examined-one}
 use Rattle.model.proofs.Steps.{now-now, roles-now, standing-now}
-use Rattle.ordering.specs.Ranking.{Ranked}
-use Rattle.ordering.proofs.Facts.{ranked}
+use Rattle.building.specs.Tables.{Zeros}
+use Rattle.records.proofs.Judging.{zeros}
+use Rattle.ordering.specs.Ranking.{Nested, Keyed, Ranked}
+use Rattle.ordering.proofs.Ranking.{nested}
 use Rattle.trials.specs.declared.progress.Progress.{Progress}
 use Rattle.trials.specs.Trying.{runAt, Kin, Ready, Going}
 use Rattle.trials.proofs.Moving.{roles-count}
 use Rattle.trials.proofs.Runs.{kin-same, kin-trans, kin-roles, kin-count}
-use Rattle.eliminating.specs.Passing.{Searched, Stand, Keyed}
-use Rattle.eliminating.proofs.Turns.{searched-indexed}
+use Rattle.eliminating.specs.Passing.{Searched, Stand}
 
 -- ---- what a turn leaves
 
@@ -73,15 +74,17 @@ stand-few ws low users s ready inv =
 
 -- ---- the walk: `todo` is not yet taken up, mid, g and list are what the roles before have left
 
-module _ (ws low users keys : List ℕ) (w : Weights) (t : model.Tolerance) (at : Progress) (wl : ℕ) where
+module _ (ws low users ranks : List ℕ) (w : Weights) (t : model.Tolerance) (at : Progress) (wl : ℕ) where
   abbrev ρ : Roles
   ρ = rolesOf (stateOf ws)
 
-  pub record Taking (mid : List ℕ) (g : Progress) (list todo : ℕ) : Type 0 where
+  pub record Taking (mid : List ℕ) (g : Progress) (list todo top : ℕ) : Type 0 where
     pub going : Going mid low users g
     pub kin : Kin (stateOf ws) mid
     pub below : todo < 2 ^ candidateCount ρ
-    pub run : (key : ℕ → ℕ) → Keyed keys wl key → takeUpAll ρ w t key (ones wl) wl (runAt ws at wl) ≡ takeUpAll ρ w t key (ones todo) todo (runAt mid g list)
+    pub run : (key : ℕ → ℕ) → Keyed ranks wl key → takeUpAll ρ w t key (ones wl) wl (runAt ws at wl) ≡ takeUpAll ρ w t key (ones todo) todo (runAt mid g list)
+    pub small : top ≤ 128
+    pub tops : (key : ℕ → ℕ) → Keyed ranks wl key → (i : ℕ) → So (has todo i) → key i ≤ top
     pub within : (i : ℕ) → So (has todo i) → So (has wl i)
     pub standing : Stand todo (stateOf mid .standing)
     pub listed : Stand list (stateOf mid .standing)
@@ -89,13 +92,15 @@ module _ (ws low users keys : List ℕ) (w : Weights) (t : model.Tolerance) (at 
     pub examined : g .examined + ones todo ≤ at .examined + ones wl
     pub quality : g .quality ≤ 100000000
 
-  pub taking-start : Going ws low users at → Stand wl (stateOf ws .standing) → at .quality ≤ 100000000 → Taking ws at wl wl
+  pub taking-start : Going ws low users at → Stand wl (stateOf ws .standing) → at .quality ≤ 100000000 → Taking ws at wl wl 128
   taking-start going inv few =
       record {
         going = going;
         kin = kin-same ws;
         below = stand-below ws low users wl (going .ready) inv;
         run = λ key h. refl;
+        small = le-refl 128;
+        tops = λ key h i t. h i t .0;
         within = λ i h. h;
         standing = inv;
         listed = inv;
@@ -104,31 +109,33 @@ module _ (ws low users keys : List ℕ) (w : Weights) (t : model.Tolerance) (at 
         quality = few;
       }
 
-  module _ (mid : List ℕ) (g : Progress) (list todo : ℕ) (p : Taking mid g list todo) where
+  module _ (mid : List ℕ) (g : Progress) (list todo top : ℕ) (p : Taking mid g list todo top) where
     pub taking-bound : (g .changed ≤ at .changed + ones wl) × (g .examined ≤ at .examined + ones wl)
     taking-bound = let x = p .changed in let y = p .examined in (omega arith, omega arith)
 
-    module _ (k : ℕ) (here : So (has todo k))
-        (chosen : (c : ℕ) (key : ℕ → ℕ) → c ≤ 128 → todo < 2 ^ c → Keyed keys todo key → k ≡ foremost c key todo) (after : List ℕ) (r : Progress) (list' todo' : ℕ)
+    module _ (k top' : ℕ) (here : So (has todo k)) (small : top' ≤ 128)
+        (chosen : (c : ℕ) (key : ℕ → ℕ) → todo < 2 ^ c → Keyed ranks todo key → ((i : ℕ) → So (has todo i) → key i ≤ top) → (k ≡ foremost c key todo) × ((i : ℕ) → So (has todo i) → key i ≤ top')) (after : List ℕ) (r : Progress) (list' todo' : ℕ)
         (turn : Going after low users r × Kin (stateOf mid) after × (runAt after r list' ≡ takeUp (rolesOf (stateOf mid)) w t k (runAt mid g list)) × (r .quality ≤ 100000000))
         (et : todo' ≡ todo ∖ single k) where
       next : runAt after r list' ≡ takeUp ρ w t k (runAt mid g list)
       next = rw (kin-roles (stateOf ws) mid (p .kin)) at (turn .2)
 
+      next-role : (key : ℕ → ℕ) → Keyed ranks wl key → (k ≡ foremost (candidateCount ρ) key todo) × ((i : ℕ) → So (has todo i) → key i ≤ top')
+      next-role key h = chosen (candidateCount ρ) key (p .below) (λ i x. h i (p .within i x)) (p .tops key h)
+
       fewer : suc (ones todo') ≡ ones todo
       fewer = rw et (ones-without todo k here)
 
-      all-next : (key : ℕ → ℕ) → Keyed keys wl key → takeUpAll ρ w t key (ones todo) todo (runAt mid g list) ≡ takeUpAll ρ w t key (ones todo') todo' (runAt after r list')
+      all-next : (key : ℕ → ℕ) → Keyed ranks wl key → takeUpAll ρ w t key (ones todo) todo (runAt mid g list) ≡ takeUpAll ρ w t key (ones todo') todo' (runAt after r list')
       unfolding takeUpAll
       all-next key h =
           let c = candidateCount ρ in
-          let few = rw (kin-roles (stateOf ws) mid (p .kin)) at (p .going .ready .limits .candidates-most) in
-          let first : k ≡ foremost c key todo = chosen c key few (p .below) (λ i x. h i (p .within i x)) in
+          let first : k ≡ foremost c key todo = next-role key h .0 in
           let more : takeUpAll ρ w t key (ones todo) todo (runAt mid g list) ≡ takeUpAll ρ w t key (suc (ones todo')) todo (runAt mid g list) = ap (λ (n : ℕ). takeUpAll ρ w t key n todo (runAt mid g list)) (sym fewer) in
           more ∙ ap (λ (j : ℕ). takeUpAll ρ w t key (ones todo') (todo ∖ single j) (takeUp ρ w t j (runAt mid g list))) (sym first)
           ∙ (λ i. takeUpAll ρ w t key (ones todo') (sym et i) (sym next i))
 
-      pub taking-more : Taking after r list' todo'
+      pub taking-more : Taking after r list' todo' top'
       unfolding runAt
       taking-more =
           let now-standing : stateOf after .standing ≡ takeUp ρ w t k (runAt mid g list) .standing = ap (λ (x : Run). x .standing) next in
@@ -143,6 +150,8 @@ module _ (ws low users keys : List ℕ) (w : Weights) (t : model.Tolerance) (at 
             kin = kin-trans (stateOf ws) mid after (p .kin) (turn .1);
             below = rw et (∖-lt (candidateCount ρ) todo (single k) (p .below));
             run = λ key h. p .run key h ∙ all-next key h;
+            small = small;
+            tops = λ key h i x. next-role key h .1 i (∖-iff todo (single k) i .0 (rw et at x) .0);
             within = λ i h. p .within i (∖-iff todo (single k) i .0 (rw et at h) .0);
             standing = λ i h.
                 let a = ∖-iff todo (single k) i .0 (rw et at h) in
@@ -153,7 +162,7 @@ module _ (ws low users keys : List ℕ) (w : Weights) (t : model.Tolerance) (at 
             quality = turn .3;
           }
 
-    pub taking-all : todo ≡ 0 → (key : ℕ → ℕ) → Keyed keys wl key → runAt mid g list ≡ takeUpAll ρ w t key (ones wl) wl (runAt ws at wl)
+    pub taking-all : todo ≡ 0 → (key : ℕ → ℕ) → Keyed ranks wl key → runAt mid g list ≡ takeUpAll ρ w t key (ones wl) wl (runAt ws at wl)
     unfolding takeUpAll
     taking-all e key h =
         let none : ones todo ≡ 0 = ap ones e ∙ ones-zero in
@@ -169,11 +178,23 @@ searched-kin st ws roles holders a k = subst (λ (x : State). Searched x roles h
 
 -- ---- the pass
 
-pub pass-keyed : (ws low users roles holders keys : List ℕ) (counted wl c : ℕ) → Ready ws low users → Searched (stateOf ws) roles holders → Stand wl (stateOf ws .standing) → c ≡ getD ws 2 0
-    → ((ρ : Roles) → Ranked ρ (take 512 (drop crewStart ws)) (take 512 (drop setsStart ws)) roles users holders c → wl < 2 ^ c → Keyed keys wl (redundancy ρ counted))
-    → Keyed keys wl (redundancy (rolesOf (stateOf ws)) counted)
-pass-keyed ws low users roles holders keys counted wl c ready found inv e filled =
-    filled (rolesOf (stateOf ws)) (ranked (stateOf ws) low roles users holders ws c e (ready .limits) (ready .afresh) (searched-indexed ws low users roles holders ready found) (found .permission-roles)) (rw (e ∙ sym (roles-count ws low users ready 0)) (stand-below ws low users wl ready inv))
+pub no-ranks : Zeros 258 (replicate 258 0)
+no-ranks = zeros 258
+
+pub ranked-kin : (st : State) (ws down up : List ℕ) (own first : ℕ) → Ranked (rolesOf st) down up own first → Kin st ws → Ranked (rolesOf (stateOf ws)) down up own first
+ranked-kin st ws down up own first a k = rw (kin-roles st ws k) a
+
+module _ (ws low users down up : List ℕ) (own first c : ℕ) (ready : Ready ws low users) (a : Ranked (rolesOf (stateOf ws)) down up own first) (e : c ≡ getD ws 2 0) where
+  count : candidateCount (rolesOf (stateOf ws)) ≡ c
+  count = roles-count ws low users ready 0 ∙ sym e
+
+  pub pass-nested : Nested down up c × (own < 2 ^ c) × (first < 2 ^ c)
+  pass-nested = (nested (rolesOf (stateOf ws)) down up own first c count a, rw count at (a .own-below), rw count at (a .first-below))
+
+  pub pass-keyed : (ranks : List ℕ) (counted wl : ℕ) → Stand wl (stateOf ws .standing)
+      → ((ρ : Roles) → candidateCount ρ ≡ c → Ranked ρ down up own first → wl < 2 ^ c → Keyed ranks wl (redundancy ρ counted))
+      → Keyed ranks wl (redundancy (rolesOf (stateOf ws)) counted)
+  pass-keyed ranks counted wl inv filled = filled (rolesOf (stateOf ws)) count a (rw count at (stand-below ws low users wl ready inv))
 
 pub pass-is : (ws after : List ℕ) (at g : Progress) (w : Weights) (t : model.Tolerance) (counted wl wl' : ℕ) → counted ≡ strikables (rolesOf (stateOf ws)) (stateOf ws .standing)
     → runAt after g wl' ≡ takeUpAll (rolesOf (stateOf ws)) w t (redundancy (rolesOf (stateOf ws)) counted) (ones wl) wl (runAt ws at wl)

@@ -1,34 +1,32 @@
 -- A role taken up, as the machine takes it up.
 -- Assumes nothing.
-use mathlib.Core.Path.{_≡_, refl, sym, _∙_, ap, subst}
-use mathlib.Core.Bool.{Bool, true, false, So}
+use mathlib.Core.Path.{_≡_, sym, _∙_, ap}
+use mathlib.Core.Bool.{Bool, false, So}
 use mathlib.Core.List.{List}
-use Prim.Native.Nat.{ℕ, zero, suc, _+_, _-_, _*_, _^_, _≤_, _<_}
+use Prim.Native.Nat.{ℕ, suc, _+_, _-_, _*_, _≤_, _<_}
 use native.Mathlib.Nat.{mul-le-mul}
 use native.Mathlib.Numerals.{add-one}
 use native.Mathlib.Omega.{arith}
-use lib.Dec.{eqb, leb, ltb}
-use lib.ListN.{getD}
-use Rattle.sets.specs.Truth.{isnt, _and_, if_then_else_}
-use Rattle.sets.specs.Sets.{has, _∪_, _∖_, single}
-use Rattle.sets.proofs.Truth.{by-test, So-not, not-So, and-iff, isnt-iff, ltb-iff, leb-iff, eqb-iff, if-true, if-false}
+use lib.Dec.{leb, ltb}
+use Rattle.sets.specs.Truth.{isnt, _and_}
+use Rattle.sets.specs.Sets.{has, _∖_, single}
+use Rattle.sets.proofs.Truth.{So-not, not-So, and-iff, isnt-iff, ltb-iff, leb-iff, if-true, if-false}
 use Rattle.sets.proofs.Items.{item-below}
-use Rattle.model.specs.Hierarchy.{Roles, candidateCount, directPermissions}
+use Rattle.model.specs.Hierarchy.{directPermissions}
 use Rattle.model.specs.Coverage.{strikable}
 use Rattle.model.specs.Indexes.{rolesOfPermission}
 use Rattle.model.specs.Quality.{Weights, quality}
 use Rattle.model.specs.Machine as model
-use Rattle.model.specs.Machine.{Run, dropped, struck, kept, takeUp}
+use Rattle.model.specs.Machine.{dropped, struck, kept, takeUp}
 use Rattle.model.specs.Record.{built, stateOf}
 use Rattle.model.specs.State.{State, rolesOf, standingNow}
 use Rattle.model.proofs.Record.{Limits, directPermissions-lt}
-use Rattle.model.proofs.Building.{stands-below}
-use Rattle.model.proofs.Steps.{limits-ordered, roles-now, standing-now}
+use Rattle.model.proofs.Bounds.{tolerance-iff}
+use Rattle.model.proofs.Steps.{standing-now}
 use Rattle.building.specs.Tables.{Indexed}
 use Rattle.coverage.specs.Sparing.{HoldsFor}
 use Rattle.trials.specs.declared.progress.Progress.{Progress}
-use Rattle.trials.specs.Trying.{runAt, Kin, Ready, Going}
-use Rattle.trials.proofs.Runs.{kin-roles}
+use Rattle.trials.specs.Trying.{runAt, Ready}
 use Rattle.eliminating.specs.declared.turn.Tolerance.{Tolerance}
 use Rattle.eliminating.specs.Passing.{toleranceIn, Searched}
 
@@ -47,25 +45,14 @@ module _ (ws low users roles holders : List ℕ) (ready : Ready ws low users) (f
       told st low users (ready .limits) (ready .afresh) searched-indexed
       (λ p h. found .permission-roles p (item-below (st .permissions) (directPermissions (rolesOf st) (st .standing) k) p (directPermissions-lt (rolesOf st) (st .standing) k) h)) stands
 
--- a standing role is a candidate's number, before and after it was struck
-pub struck-known : (ws low users mid : List ℕ) (k : ℕ) → Ready ws low users → So (has (stateOf ws .standing) k)
-    → stateOf mid ≡ standingNow (stateOf ws) (stateOf ws .standing ∖ single k) → k < candidateCount (rolesOf (stateOf mid))
-struck-known ws low users mid k ready stands e =
-    let st = stateOf ws in
-    rw (e, roles-now st (st .standing ∖ single k)) (stands-below (rolesOf st) (st .standing) (limits-ordered st (ready .limits)) k stands)
-
 -- ---- products that can be formed
 
 pub tolerance-small : (t : Tolerance) → So (model.toleranceAllowed (toleranceIn t)) → (t .denominator ≤ 1000) × (t .numerator ≤ 2000)
-unfolding model.toleranceAllowed toleranceIn
+unfolding toleranceIn
 tolerance-small t h =
-    let a = t .numerator in
-    let b = t .denominator in
-    let x = and-iff (leb 1 b and leb b 1000 and leb b a) (leb a (2 * b)) .0 h in
-    let y = and-iff (leb 1 b and leb b 1000) (leb b a) .0 (x .0) in
-    let z = and-iff (leb 1 b) (leb b 1000) .0 (y .0) in
-    let few = leb-iff b 1000 .0 (z .1) in
-    let most = leb-iff a (2 * b) .0 (x .1) in
+    let k = tolerance-iff (toleranceIn t) .0 h in
+    let few = k .1 in
+    let most = k .3 in
     (few, omega arith)
 
 pub product-small : (a q x y : ℕ) → a ≤ x → q ≤ y → a * q ≤ x * y

@@ -4,7 +4,6 @@ use mathlib.Core.Path.{_≡_}
 use mathlib.Core.Bool.{So}
 use mathlib.Core.List.{List}
 use Prim.Native.Nat.{ℕ, _*_, _<_}
-use lib.ListN.{getD}
 use Rattle.sets.specs.Sets.{has}
 use Rattle.model.specs.Lists.{setAt}
 use Rattle.model.specs.Indexes.{rolesOfUser, rolesOfPermission}
@@ -22,10 +21,6 @@ toleranceIn t = record { numerator = t .numerator; denominator = t .denominator 
 -- every item of s stands
 abbrev pub Stand : ℕ → ℕ → Type 0
 Stand s R = (i : ℕ) → So (has s i) → So (has R i)
-
--- the words are the keys of the roles in s
-abbrev pub Keyed : List ℕ → ℕ → (ℕ → ℕ) → Type 0
-Keyed keys s key = (k : ℕ) → So (has s k) → getD keys k 0 ≡ key k
 
 -- the record and the progress hold the machine's run, whatever is left of its worklist
 abbrev pub Ended : List ℕ → Progress → model.Run → Type 0

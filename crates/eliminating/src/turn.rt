@@ -10,13 +10,13 @@ ghost use Rattle.model.specs.Record.{recordLength, stateOf};
 ghost use Rattle.model.specs.State.{rolesOf};
 ghost use Rattle.trials.specs.Trying.{weightsIn, runAt, Kin, Going};
 ghost use Rattle.eliminating.specs.Passing.{toleranceIn, Searched};
-use editing::put_back;
 use editing::removable;
+use editing::take_out_at;
 use reading::weigh;
 use sets::Set128;
 use trials::Progress;
 use trials::Weights;
-use trials::strike_counted;
+use trials::if_struck;
 
 // The tolerance a/b.
 pub struct Tolerance {
@@ -44,8 +44,8 @@ fn examined(at: Progress) -> Progress
     }
 }
 
-// Takes up the standing role k. Where it is not removable it leaves the worklist; otherwise it is taken out, and put back where the quality is
-// then not within the tolerance.
+// Takes up the standing role k. Where it is not removable it leaves the worklist; otherwise its strike is weighed, and it is taken out where the
+// quality is then within the tolerance.
 pub fn take_up(
     rec: &mut [u64],
     low: &[u64],
@@ -67,9 +67,11 @@ pub fn take_up(
         return Turn { progress, worklist };
     }
     let before = at.counts;
-    let counts = strike_counted(rec, low, users, before, k);
+    let strike = if_struck(rec, low, users, before, k);
+    let counts = strike.counts;
     let quality = weigh(counts, w.role, w.member, w.permission, w.link);
     if t.denominator * quality < t.numerator * at.quality {
+        take_out_at(rec, low, users, k, strike.seniors, strike.juniors);
         let progress = Progress {
             counts,
             quality,
@@ -79,7 +81,6 @@ pub fn take_up(
         let worklist = worklist.remove(k);
         return Turn { progress, worklist };
     }
-    put_back(rec, low, users, k);
     let progress = examined(at);
     Turn { progress, worklist }
 }

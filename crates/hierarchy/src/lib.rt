@@ -2,11 +2,9 @@
 mod fill;
 mod items;
 mod lower;
-mod neighbours;
 mod rows;
 mod sieve;
 
-pub use fill::fill_columns;
 pub use fill::fill_juniors;
 pub use fill::fill_lower;
 pub use fill::fill_members;
@@ -14,7 +12,6 @@ pub use fill::fill_permissions;
 pub use items::highest_item;
 pub use items::lowest_item;
 pub use lower::lower_of;
-pub use neighbours::column;
 pub use rows::juniors_of;
 pub use rows::members_of;
 pub use rows::permissions_of;

@@ -1,37 +1,39 @@
 ghost use mathlib.Core.Path.{_≡_};
-ghost use Prim.Native.Nat.{_+_, _*_, _≤_, _<_};
+ghost use Prim.Native.Nat.{ℕ, _+_, _*_, _≤_, _<_};
 ghost use lib.ListN.{length};
 ghost use Rattle.sets.specs.Held.{set128, set256};
-ghost use Rattle.sets.specs.Sets.{_∪_, single, subset, collect};
-ghost use Rattle.sets.specs.Truth.{if_then_else_};
+ghost use Rattle.sets.specs.Sets.{subset, collect};
 ghost use Rattle.model.specs.Lists.{setAt};
+use columns::in_first_word;
 use sets::Set128;
 use sets::Set256;
+use sets::with_bit;
 use tables::load256;
 
 // The roles below k whose set lies within that of k. A proper subset has a lower number, so these are all the roles that can be junior to k:
-// 8,128 tests for 128 roles.
+// 8,128 tests for 128 roles. A word of the answer is gathered at a time.
 pub fn lower_of(table: &[u64], k: usize) -> Set128
     requires { ⌜ (k < 128) × (4 * k + 4 ≤ length (now table)) ⌝ }
     ensures { λ r. ⌜ set128 r ≡ collect k (λ j. subset (setAt 4 (now (table .entry)) (4 * j)) (setAt 4 (now (table .entry)) (4 * k))) ⌝ }
 {
     let s = load256(table, 4 * k);
-    let mut below = Set128::empty();
-    let mut j = 0;
-    while j < k {
-        below = with_subset(below, j, load256(table, 4 * j), s);
-        j += 1;
-    }
-    below
+    let first = in_first_word(k);
+    Set128::from_words([
+        gather_within(table, 0, first, s),
+        gather_within(table, 64, k - first, s),
+    ])
 }
 
-// The set with j in it where x lies within s.
-fn with_subset(below: Set128, j: usize, x: Set256, s: Set256) -> Set128
-    requires { ⌜ j < 128 ⌝ }
-    ensures { λ r. ⌜ set128 r ≡ (if subset (set256 x) (set256 s) then set128 below ∪ single j else set128 below) ⌝ }
+// Which of `count` sets from set `from` on lie within s.
+fn gather_within(table: &[u64], from: usize, count: usize, s: Set256) -> u64
+    requires { ⌜ (from ≤ 64) × (count ≤ 64) × ((q : ℕ) → q < count → 4 * (from + q) + 4 ≤ length (now table)) ⌝ }
+    ensures { λ r. ⌜ r ≡ collect count (λ q. subset (setAt 4 (now (table .entry)) (4 * (from + q))) (set256 s)) ⌝ }
 {
-    if x.is_subset(s) {
-        return below.insert(j);
+    let mut bits = 0;
+    let mut q = 0;
+    while q < count {
+        bits = with_bit(bits, q, load256(table, 4 * (from + q)).is_subset(s));
+        q += 1;
     }
-    below
+    bits
 }

@@ -28,8 +28,8 @@ use Rattle.crewtext.specs.Reader.Read.{rowsRead, badForm, badBit}
 use Rattle.crewtext.proofs.Laid.{length-laid}
 use Rattle.crewtext.proofs.Canonical.{Accepted, accepted, words-hold}
 use Rattle.text.specs.Stores.{putAt}
-use Rattle.panel.specs.declared.mine.MineAnswer.{MineAnswer}
-use Rattle.panel.specs.Answers.{mined}
+use Rattle.call_mine.specs.declared.MineAnswer.{MineAnswer}
+use Rattle.call_mine.specs.Answers.{mined}
 use Rattle.listing.specs.Listing.{Printable, settled, refusedText, rolesText, listed, listing}
 
 -- ---- mining a crew list that was read

@@ -27,11 +27,12 @@ use Rattle.model.proofs.Claim.{claim, sound-unfit}
 use Rattle.building.proofs.Sources.{narrow}
 use Rattle.reading.specs.Reading.{weightsOf}
 use Rattle.text.specs.Stores.{putAt}
-use Rattle.calls.specs.declared.eliminate.EliminateAnswer.{EliminateAnswer}
-use Rattle.calls.specs.declared.review.ReviewAnswer.{ReviewAnswer}
-use Rattle.panel.specs.declared.quality.QualityAnswer.{QualityAnswer}
-use Rattle.calls.specs.Answers.{toleranceOf, eliminateGiven, reviewGiven}
-use Rattle.panel.specs.Answers.{qualityTold}
+use Rattle.call_eliminate.specs.declared.EliminateAnswer.{EliminateAnswer}
+use Rattle.call_review.specs.declared.ReviewAnswer.{ReviewAnswer}
+use Rattle.call_quality.specs.declared.QualityAnswer.{QualityAnswer}
+use Rattle.call_eliminate.specs.Answers.{toleranceOf, eliminateGiven}
+use Rattle.call_review.specs.Answers.{reviewGiven}
+use Rattle.call_quality.specs.Answers.{qualityTold}
 use Rattle.listing.specs.Listing.{plainWeights, plainTolerance, settled, line, linesTo, headLine, roleLine, rolesText}
 use Rattle.listing.specs.Words.{Limited, wordsLine, wordsLines}
 use Rattle.listing.proofs.Puts.{Put, put-then, put-same, lines-most}

@@ -7,18 +7,17 @@ ghost use Rattle.text.specs.Stores.{putAt};
 ghost use Rattle.crewtext.specs.Format.{digitsFor};
 ghost use Rattle.listing.specs.Listing.{field};
 ghost use Rattle.listing.specs.Words.{Limited, wordsLine, standingLine, wordsLines};
-use records::JUNIORS;
-use records::MEMBERS;
-use records::PERMISSIONS;
-use records::SETS;
+use tables::JUNIORS;
+use tables::MEMBERS;
+use tables::PERMISSIONS;
+use tables::SETS;
+use tables::STANDING;
 use tables::load128;
 use tables::load256;
 use text::put_bytes;
 use text::put_decimal;
 use text::put_hexadecimal;
 use text::put_hexadecimal_128;
-
-pub const STANDING: usize = 4;
 
 // How many hexadecimal digits a set of items below `size` has.
 fn digits(size: u64) -> usize

@@ -3,5 +3,7 @@ pub mod Halving
 pub mod Moving
 pub mod Placing
 pub mod Meeting
+pub mod Seeing
+pub mod Walking
 pub mod Written
 pub mod Persons

@@ -7,8 +7,6 @@ use native.Mathlib.Nat.{zero-add}
 use native.Mathlib.Omega.{arith}
 use lib.ListN.{length, getD, take, drop, length-append, length-drop, List·getD-append}
 use lib.Seq.{ext-getD, length-take-le, getD-take, getD-drop, getD-at, getD-append-add}
-use Rattle.tables.specs.Stores.{putAt}
-use Rattle.tables.proofs.Stores.{length-putAt, putAt-in}
 use Rattle.model.specs.Lists.{setAt, rowsAt}
 use Rattle.model.proofs.Lists.{length-rowsAt, getD-rowsAt}
 
@@ -40,11 +38,3 @@ module _ (x : ℕ) (xs : List ℕ) (i : ℕ) (h : i ≤ length xs) where
       let e : length (take i xs) + suc (j - i) ≡ suc j = omega (arith, front) in
       let k : i + (j - i) ≡ j = omega arith in
       rw e at (getD-append-add (take i xs) (x ∷ drop i xs) (suc (j - i)) 0) ∙ rw k at (getD-drop i xs (j - i) 0)
-
--- a list as long as another, with the other put into it from its start, is the other
-pub copied-whole : (l src : List ℕ) → length l ≡ length src → putAt l 0 src ≡ src
-copied-whole l src e =
-    ext-getD 0 (putAt l 0 src) src (length-putAt l 0 src ∙ e)
-    (λ i b.
-    let k : i < length src = rw (length-putAt l 0 src, e) at b in
-    rw (zero-add i) at (putAt-in l 0 src i (omega arith) k))

@@ -1,15 +1,14 @@
 -- What the functions promise of their answers, by the answers' cases. A table t with k sets has them at `rowsAt k t 0`.
 -- Assumes nothing.
 use mathlib.Core.Path.{_≡_}
+use mathlib.Core.Bool.{Bool, true, false}
+use mathlib.Core.Logic.{_≢_, _⊎_}
 use mathlib.Core.List.{List, _∷_, _++_}
 use Prim.Native.Nat.{ℕ, _+_, _*_, _≤_, _<_}
 use lib.ListN.{length, getD, take, drop}
 use Rattle.sets.specs.Words.{word}
-use Rattle.sets.specs.Sets.{_∩_}
-use Rattle.sets.specs.Truth.{if_then_else_}
-use Rattle.model.specs.Candidates.{place}
-use Rattle.model.specs.Lists.{rowsAt}
-use Rattle.model.proofs.Candidates.{idle}
+use Rattle.model.specs.Candidates.{Listed}
+use Rattle.model.specs.Lists.{setAt, rowsAt}
 use Rattle.mining.specs.declared.Found.{Found}
 use Rattle.mining.specs.declared.Found.the-variants.{At, Missing}
 use Rattle.mining.specs.declared.Admitted.{Admitted}
@@ -60,6 +59,26 @@ abbrev pub Mines : List ℕ → List ℕ → Mined → Type 0
 Mines xs t (mined.Count k) = Written t k xs
 Mines xs t mined.TooMany = 128 < length xs
 
--- the intersection of r and x in a table that has both: it is placed, unless it is empty, r or x
-unfoldable pub met : ℕ → ℕ → List ℕ → List ℕ
-met r x xs = if idle r x then xs else place (r ∩ x) xs
+-- ---- the meets that were seen
+
+-- each slot is empty or has one of the sets xs
+pub record Seen (slots xs : List ℕ) : Type 0 where
+  pub size : length slots ≡ 512
+  pub listed : (s : ℕ) → s < 128 → (setAt 4 slots (4 * s) ≡ 0) ⊎ Listed xs (setAt 4 slots (4 * s))
+
+-- what is told of y, the meet of a row and x: it is x, empty, or in a slot; or it is not empty
+abbrev pub Known : List ℕ → ℕ → ℕ → Bool → Type 0
+Known slots x y true = (y ≡ x) ⊎ ((y ≡ 0) ⊎ ((s : ℕ) × (s < 128) × (y ≡ setAt 4 slots (4 * s))))
+Known slots x y false = y ≢ 0
+
+-- x stands in one of the slots, and the others are as they were
+pub record Remembered (x : ℕ) (slots slots' : List ℕ) : Type 0 where
+  pub slot : ℕ
+  pub below : slot < 128
+  pub there : setAt 4 slots' (4 * slot) ≡ x
+  pub others : (s : ℕ) → s ≢ slot → setAt 4 slots' (4 * s) ≡ setAt 4 slots (4 * s)
+
+-- a table that was to hold xs, with the slots
+abbrev pub Adds : List ℕ → List ℕ → List ℕ → Admitted → Type 0
+Adds xs t slots (admitted.Count k) = Holds t k xs × Seen slots xs
+Adds xs t slots admitted.Full = 128 < length xs

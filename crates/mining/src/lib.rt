@@ -1,17 +1,20 @@
 // Mining: the candidates of a crew list, in a table. A table is a slice of 512 words: at most 128 sets of four words each, which grow as
 // numbers, and zeros after them.
+mod seen;
+
 ghost use mathlib.Core.Path.{_≡_};
 ghost use mathlib.Core.Logic.{_≢_};
 ghost use Prim.Native.Nat.{ℕ, _+_, _*_, _≤_};
 ghost use lib.ListN.{length, getD};
 ghost use Rattle.sets.specs.Held.{set256};
-ghost use Rattle.model.specs.Candidates.{place, admit, addRow, candidates};
+ghost use Rattle.model.specs.Candidates.{place, addRow, candidates, Listed};
 ghost use Rattle.model.specs.Lists.{rowsAt};
 ghost use Rattle.model.proofs.Growing.{Growing};
 ghost use Rattle.model.proofs.Candidates.{Table};
-ghost use Rattle.mining.specs.Mining.{Finds, Between, Inserts, Framed, Holds, Admits, Mines, met};
+ghost use Rattle.mining.specs.Mining.{Finds, Between, Inserts, Framed, Admits, Seen, Adds, Mines};
+use seen::is_known;
+use seen::remember;
 use sets::Set256;
-use tables::copy;
 use tables::load256;
 use tables::store256;
 
@@ -84,64 +87,57 @@ fn put(table: &mut [u64], n: usize, at: usize, x: Set256) -> Admitted
     Admitted::Count(n + 1)
 }
 
-// One search, and x is put at its place where it is new.
-fn admit(table: &mut [u64], n: usize, x: Set256) -> Admitted
-    requires { ⌜ Framed (now table) n × Growing (rowsAt n (now table) 0) ⌝ }
-    ensures { λ r. ⌜ Admits (place (set256 x) (rowsAt n (now (table .entry)) 0)) (now (table .exit)) r ⌝ }
+// One search, and x is put at its place where it is new. From now on it is known.
+fn admit(table: &mut [u64], seen: &mut [u64], n: usize, x: Set256) -> Admitted
+    requires { ⌜ Framed (now table) n × Growing (rowsAt n (now table) 0) × Seen (now seen) (rowsAt n (now table) 0) ⌝ }
+    ensures { λ r. ⌜ Adds (place (set256 x) (rowsAt n (now (table .entry)) 0)) (now (table .exit)) (now (seen .exit)) r ⌝ }
 {
+    remember(seen, x);
     let Found::Missing(at) = search(table, n, x) else {
         return Admitted::Count(n);
     };
     put(table, n, at, x)
 }
 
-// The intersection of r and x, admitted unless it is empty, r or x: no search for those.
-fn admit_meet(table: &mut [u64], n: usize, r: Set256, x: Set256) -> Admitted
-    requires { ⌜ Framed (now table) n × Growing (rowsAt n (now table) 0) ⌝ }
-    ensures { λ a. ⌜ Admits (met (set256 r) (set256 x) (rowsAt n (now (table .entry)) 0)) (now (table .exit)) a ⌝ }
-{
-    let y = r.intersection(x);
-    if y.is_empty() | y.equals(r) | y.equals(x) {
-        return Admitted::Count(n);
-    }
-    admit(table, n, y)
-}
-
-// Admits the intersections of r with the m sets of `old`, the table as it was before r was admitted.
-fn add_meets(table: &mut [u64], n: usize, r: Set256, old: &[u64], m: usize) -> Admitted
-    requires { ⌜ (4 * m ≤ length (now old)) × Growing (rowsAt m (now old) 0) × Holds (now table) n (admit (set256 r) (rowsAt m (now old) 0)) ⌝ }
-    ensures { λ a. ⌜ Admits (addRow (set256 r) (rowsAt m (now (old .entry)) 0)) (now (table .exit)) a ⌝ }
+// Admits the intersections of r, which the table has, with the sets of the table. They come into the same table while it is walked: one
+// that comes below place i moves the set at i up, so that its meet is asked for again, and is known then; one that comes above is
+// within r, and is its own meet. So no set is left out, and no copy of the table is needed.
+fn add_meets(table: &mut [u64], seen: &mut [u64], n: usize, r: Set256) -> Admitted
+    requires { ⌜ Framed (now table) n × Growing (rowsAt n (now table) 0) × Seen (now seen) (rowsAt n (now table) 0) × Listed (rowsAt n (now table) 0) (set256 r) ⌝ }
+    ensures { λ a. ⌜ Adds (addRow (set256 r) (rowsAt n (now (table .entry)) 0)) (now (table .exit)) (now (seen .exit)) a ⌝ }
 {
     let mut count = n;
     let mut i = 0;
-    while i < m {
-        let x = load256(old, 4 * i);
-        let Admitted::Count(k) = admit_meet(table, count, r, x) else {
+    while i < count {
+        let x = load256(table, 4 * i);
+        let y = r.intersection(x);
+        i += 1;
+        if is_known(seen, x, y) {
+            continue;
+        }
+        let Admitted::Count(k) = admit(table, seen, count, y) else {
             return Admitted::Full;
         };
         count = k;
-        i += 1;
     }
     Admitted::Count(count)
 }
 
 // A row that the table lacks: it is put at its place, and then its intersections with the sets that were there.
-fn add_new(table: &mut [u64], n: usize, at: usize, r: Set256) -> Admitted
-    requires { ⌜ Framed (now table) n × Growing (rowsAt n (now table) 0) × (set256 r ≢ 0) × Between n (rowsAt n (now table) 0) (set256 r) at ⌝ }
-    ensures { λ a. ⌜ Admits (addRow (set256 r) (rowsAt n (now (table .entry)) 0)) (now (table .exit)) a ⌝ }
+fn add_new(table: &mut [u64], seen: &mut [u64], n: usize, at: usize, r: Set256) -> Admitted
+    requires { ⌜ Framed (now table) n × Growing (rowsAt n (now table) 0) × Seen (now seen) (rowsAt n (now table) 0) × (set256 r ≢ 0) × Between n (rowsAt n (now table) 0) (set256 r) at ⌝ }
+    ensures { λ a. ⌜ Adds (addRow (set256 r) (rowsAt n (now (table .entry)) 0)) (now (table .exit)) (now (seen .exit)) a ⌝ }
 {
-    let mut old = [0u64; 512];
-    copy(&mut old, 0, table);
     let Admitted::Count(k) = put(table, n, at, r) else {
         return Admitted::Full;
     };
-    add_meets(table, k, r, &old, n)
+    add_meets(table, seen, k, r)
 }
 
 // One more person's row. An empty row, or one that the table has, adds nothing.
-fn add_row(table: &mut [u64], n: usize, r: Set256) -> Admitted
-    requires { ⌜ Framed (now table) n × Table (rowsAt n (now table) 0) ⌝ }
-    ensures { λ a. ⌜ Admits (addRow (set256 r) (rowsAt n (now (table .entry)) 0)) (now (table .exit)) a ⌝ }
+fn add_row(table: &mut [u64], seen: &mut [u64], n: usize, r: Set256) -> Admitted
+    requires { ⌜ Framed (now table) n × Table (rowsAt n (now table) 0) × Seen (now seen) (rowsAt n (now table) 0) ⌝ }
+    ensures { λ a. ⌜ Adds (addRow (set256 r) (rowsAt n (now (table .entry)) 0)) (now (table .exit)) (now (seen .exit)) a ⌝ }
 {
     if r.is_empty() {
         return Admitted::Count(n);
@@ -149,24 +145,25 @@ fn add_row(table: &mut [u64], n: usize, r: Set256) -> Admitted
     let Found::Missing(at) = search(table, n, r) else {
         return Admitted::Count(n);
     };
-    add_new(table, n, at, r)
+    add_new(table, seen, n, at, r)
 }
 
 // Mines the n rows that stand in `crew` from place `at` on into a table of zeros. It stops at the first candidate too many, since more
 // rows never give fewer candidates.
 // A row that is empty or a candidate by then costs one search at most. Each other row is a new candidate, so there are at most 128 of
-// them, whatever n is, and they meet at most 0 + 1 + .. + 127 = 8,128 sets. A meet is an AND and three tests of four words, and where
-// it may be new one search. At most 128 sets are put in, each with at most 508 words moved.
+// them, whatever n is, and they meet at most 128 sets each, and the sets that they give once more. A meet is an AND and two or three
+// tests of four words, and one search where it is not in its slot of `seen`. At most 128 sets are put in, each with at most 508 words moved.
 pub fn mine(crew: &[u64], at: usize, n: usize, table: &mut [u64]) -> Mined
     requires { ⌜ (at + 4 * n ≤ length (now crew)) × (length (now table) ≡ 512) × ((i : ℕ) → getD (now table) i 0 ≡ 0) ⌝ }
     ensures { λ r. ⌜ Mines (candidates (rowsAt n (now (crew .entry)) at)) (now (table .exit)) r ⌝ }
 {
+    let mut seen = [0u64; 512];
     let end = at + 4 * n;
     let mut count = 0;
     let mut i = at;
     while i + 4 <= end {
         let r = load256(crew, i);
-        let Admitted::Count(k) = add_row(table, count, r) else {
+        let Admitted::Count(k) = add_row(table, &mut seen, count, r) else {
             return Mined::TooMany;
         };
         count = k;

@@ -7,6 +7,7 @@ pub mod Reading
 pub mod Chains
 pub mod Building
 pub mod Changes
+pub mod Restoring
 pub mod Lists
 pub mod Record
 pub mod Altered
@@ -17,3 +18,4 @@ pub mod Bounds
 pub mod Steps
 pub mod Claim
 pub mod Shortcuts
+pub mod Intervals

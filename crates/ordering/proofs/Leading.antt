@@ -1,91 +1,87 @@
--- The walk from the lowest role up that keeps the foremost.
+-- The walk down the ranks to the first that has a role to do.
 -- Assumes nothing.
-use mathlib.Core.Path.{_≡_, sym, _∙_}
+use mathlib.Core.Path.{_≡_, sym, _∙_, ap}
 use mathlib.Core.Bool.{So}
-use mathlib.Core.Logic.{_⊎_, ⊎-elim}
+use mathlib.Core.Logic.{_≢_, ⊎-elim}
 use mathlib.Core.List.{List}
-use Prim.Native.Nat.{ℕ, _^_, _≤_, _<_}
+use Prim.Native.Nat.{ℕ, _-_, _*_, _^_, _≤_, _<_}
 use native.Mathlib.Nat.{lt-irrefl}
 use native.Mathlib.Omega.{arith}
-use lib.Dec.{ltb}
-use lib.ListN.{getD}
-use Rattle.sets.specs.Truth.{if_then_else_}
-use Rattle.sets.specs.Sets.{has, _∖_, single}
-use Rattle.sets.proofs.Truth.{either, equal-or, So-not, not-So, ltb-iff, if-true, if-false}
+use Rattle.sets.specs.Sets.{has, _∩_}
+use Rattle.sets.proofs.Truth.{So-not, equal-or}
 use Rattle.sets.proofs.Items.{has-zero}
-use Rattle.sets.proofs.Order.{∖-iff, single-iff}
-use Rattle.model.specs.Machine.{before, foremost}
-use Rattle.model.proofs.PassOrder.{before-iff, before-irrefl, foremost-only}
+use Rattle.sets.proofs.Order.{∩-iff}
+use Rattle.model.specs.Lists.{setAt}
+use Rattle.model.specs.Machine.{foremost}
+use Rattle.model.proofs.PassOrder.{before-iff, foremost-only}
 use Rattle.hierarchy.specs.Tables.{Lowest}
+use Rattle.ordering.specs.Ranking.{Keyed}
 
--- the best of the roles that are not in `rest`: each role left has no lower number, and no role that is done goes before the best
-pub record Leading (keys : List ℕ) (todo best rest : ℕ) : Type 0 where
-  pub small : best < 128
-  pub there : So (has todo best)
-  pub left : (j : ℕ) → So (has rest j) → So (has todo j) × (best ≤ j)
-  pub done : (j : ℕ) → So (has todo j) → (So (has rest j) → ⊥) → So (before (λ k. getD keys k 0) j best) → ⊥
+-- `front` are the roles of this rank, and no role to do has a larger key
+pub record Sinking (ranks : List ℕ) (todo top front rank : ℕ) : Type 0 where
+  pub small : rank ≤ 128
+  pub here : front ≡ setAt 2 ranks (2 * rank) ∩ todo
+  pub bound : (key : ℕ → ℕ) → Keyed ranks todo key → ((k : ℕ) → So (has todo k) → key k ≤ top) → (k : ℕ) → So (has todo k) → key k ≤ rank
 
-pub leading-start : (keys : List ℕ) (todo best : ℕ) → Lowest todo best → Leading keys todo best todo
-leading-start keys todo best low =
-    record { small = low .small; there = low .there; left = λ j t. (t, low .least j t); done = λ j t out b. out t }
+pub sinking-start : (ranks : List ℕ) (todo top x front : ℕ) → top ≤ 128 → x ≡ setAt 2 ranks (2 * top) → front ≡ x ∩ todo → Sinking ranks todo top front top
+sinking-start ranks todo top x front l ex ef = record { small = l; here = ef ∙ ap (λ (y : ℕ). y ∩ todo) ex; bound = λ key h b. b }
 
--- the next role, if its key is larger, or the best so far
-module _ (keys : List ℕ) (todo best rest k best' rest' : ℕ) (inv : Leading keys todo best rest) (low : Lowest rest k)
-    (eb : best' ≡ (if ltb (getD keys best 0) (getD keys k 0) then k else best)) (er : rest' ≡ rest ∖ single k) where
-  abbrev key : ℕ → ℕ
-  key i = getD keys i 0
+-- what is to be known of the role found
+abbrev Found : List ℕ → ℕ → ℕ → ℕ → ℕ → Type 0
+Found ranks todo top role rank =
+    (role < 128) × So (has todo role) × (rank ≤ 128)
+    × ((c : ℕ) (key : ℕ → ℕ) → todo < 2 ^ c → Keyed ranks todo key → ((k : ℕ) → So (has todo k) → key k ≤ top)
+    → (role ≡ foremost c key todo) × ((k : ℕ) → So (has todo k) → key k ≤ rank))
 
-  -- a role that is done now is the next one, or was done before
-  turn : (j : ℕ) → So (has todo j) → (So (has rest' j) → ⊥) → (j ≡ k) ⊎ (So (has rest j) → ⊥)
-  turn j t out = equal-or j k (λ d. _⊎_.inl d) (λ d. _⊎_.inr (λ x. out (rw er (∖-iff rest (single k) j .1 (x, λ y. d (sym (single-iff k j .0 y)))))))
+module _ (ranks : List ℕ) (todo top front rank : ℕ) (inv : Sinking ranks todo top front rank) where
+  -- a role whose key is this rank is in front
+  in-front : (key : ℕ → ℕ) → Keyed ranks todo key → (k : ℕ) → So (has todo k) → rank ≡ key k → So (has front k)
+  in-front key h k t e = rw (inv .here) (∩-iff (setAt 2 ranks (2 * rank)) todo k .1 (h k t .1 rank (inv .small) .1 e, t))
 
-  left-now : (j : ℕ) → So (has rest' j) → So (has rest j)
-  left-now j t = ∖-iff rest (single k) j .0 (rw er at t) .0
+  module _ (none : front ≡ 0) where
+    lower : (key : ℕ → ℕ) → Keyed ranks todo key → ((k : ℕ) → So (has todo k) → key k ≤ top) → (k : ℕ) → So (has todo k) → key k < rank
+    lower key h b k t =
+        let l = inv .bound key h b k t in
+        equal-or rank (key k) (λ e. absurd (So-not (has-zero k) (rw none at (in-front key h k t e)))) (λ d. let z : key k < rank = omega arith in z)
 
-  larger : key best < key k → Leading keys todo best' rest'
-  larger l =
-      let e : best' ≡ k = eb ∙ if-true (ltb (key best) (key k)) k best (ltb-iff (key best) (key k) .1 l) in
-      rw e
-      (record {
-        small = low .small;
-        there = inv .left k (low .there) .0;
-        left = λ j t. let a = left-now j t in (inv .left j a .0, low .least j a);
-        done = λ j t out b.
-            ⊎-elim (λ (d : j ≡ k). before-irrefl key k (rw d at b))
-            (λ o.
-            inv .done j t o
-            (before-iff key j best .1
-            (_⊎_.inl (⊎-elim (λ (x : key k < key j). let z : key best < key j = omega arith in z) (λ x. let y = x .0 in let z : key best < key j = omega arith in z) (before-iff key j k .0 b)))))
-            (turn j t out);
-      })
+    pub sinking-more : (x front' : ℕ) → rank ≢ 0 → x ≡ setAt 2 ranks (2 * (rank - 1)) → front' ≡ x ∩ todo → Sinking ranks todo top front' (rank - 1)
+    sinking-more x front' some ex ef =
+        let s = inv .small in
+        record {
+          small = omega arith;
+          here = ef ∙ ap (λ (y : ℕ). y ∩ todo) ex;
+          bound = λ key h b k t. let l = lower key h b k t in omega arith;
+        }
 
-  no-larger : key k ≤ key best → Leading keys todo best' rest'
-  no-larger l =
-      let e : best' ≡ best = eb ∙ if-false (ltb (key best) (key k)) k best (not-So (ltb (key best) (key k)) (λ h. let x = ltb-iff (key best) (key k) .0 h in lt-irrefl (key k) (omega arith))) in
-      rw e
-      (record {
-        small = inv .small;
-        there = inv .there;
-        left = λ j t. inv .left j (left-now j t);
-        done = λ j t out b.
-            ⊎-elim
-            (λ (d : j ≡ k).
-            ⊎-elim (λ (x : key best < key k). lt-irrefl (key k) (omega arith)) (λ x. let y = inv .left k (low .there) .1 in let z = x .1 in lt-irrefl k (omega arith))
-            (before-iff key k best .0 (rw d at b)))
-            (λ o. inv .done j t o b) (turn j t out);
-      })
+    -- below all ranks: then no role has a key, which none is that is to do
+    pub sinking-out : (role : ℕ) → rank ≡ 0 → Lowest todo role → Found ranks todo top role rank
+    sinking-out role e low = (
+      low .small,
+      low .there,
+      inv .small,
+      λ c key b h m. absurd (let l = lower key h m role (low .there) in let z : ⊥ = omega arith in z),
+    )
 
-  pub leading-more : Leading keys todo best' rest'
-  leading-more = either (key best) (key k) larger no-larger
-
--- where none is left it is the foremost, by any keys that are the same for these roles
-pub leading-all : (keys : List ℕ) (todo best rest : ℕ) → Leading keys todo best rest → rest ≡ 0 → (c : ℕ) (key : ℕ → ℕ) → todo < 2 ^ c
-    → ((k : ℕ) → So (has todo k) → getD keys k 0 ≡ key k) → best ≡ foremost c key todo
-leading-all keys todo best rest inv e c key b same =
-    sym
-    (foremost-only key c todo b best (inv .there)
-    (λ j t x.
-    inv .done j t (λ y. So-not (has-zero j) (rw e at y))
-    (before-iff (λ k. getD keys k 0) j best .1
-    (⊎-elim (λ (l : key best < key j). _⊎_.inl (rw (same j t, same best (inv .there)) l)) (λ a. _⊎_.inr (same j t ∙ a .0 ∙ sym (same best (inv .there)), a .1))
-    (before-iff key j best .0 x)))))
+  pub sinking-found : (role : ℕ) → Lowest front role → Found ranks todo top role rank
+  sinking-found role low =
+      let a = ∩-iff (setAt 2 ranks (2 * rank)) todo role .0 (rw (inv .here) at (low .there)) in (
+        low .small,
+        a .1,
+        inv .small,
+        λ c key b h m.
+            let e : rank ≡ key role = h role (a .1) .1 rank (inv .small) .0 (a .0) in
+            let most = inv .bound key h m in (
+              sym
+                  (foremost-only key c todo b role (a .1)
+                  (λ j t x.
+                  let l = most j t in
+                  ⊎-elim (λ (y : key role < key j). lt-irrefl rank (omega arith))
+                  (λ y.
+                  let same = y .0 in
+                  let less = y .1 in
+                  let first = low .least j (in-front key h j t (let z : rank ≡ key j = omega arith in z)) in
+                  lt-irrefl j (omega arith))
+                  (before-iff key j role .0 x))),
+              most,
+            ),
+      )

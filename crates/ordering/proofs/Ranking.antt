@@ -1,32 +1,35 @@
 -- The least over a walk that takes items out of a set, turn by turn; and that it is the redundancy.
 -- Assumes nothing.
 use mathlib.Core.Path.{_≡_, refl, sym, _∙_, ap, ap₂}
-use mathlib.Core.Bool.{Bool, false, So}
-use mathlib.Core.Logic.{_↔_, ⊎-elim}
+use mathlib.Core.Bool.{Bool, So}
+use mathlib.Core.Logic.{_↔_, _≢_, _⊎_, ⊎-elim}
 use mathlib.Core.List.{List}
-use Prim.Native.Nat.{ℕ, _*_, _^_, _≤_, _<_}
+use Prim.Native.Nat.{ℕ, _+_, _*_, _^_, _≤_, _<_}
 use native.Mathlib.Nat.{le-refl, le-trans, lt-irrefl}
 use native.Mathlib.Omega.{arith}
 use lib.Count.{ones}
 use lib.Dec.{ltb}
-use lib.ListN.{length, getD, set, length-set}
-use lib.Seq.{getD-set-same, getD-set-other}
+use lib.ListN.{length}
 use borrow.Author.Tests.{lt-ltb, le-ltb}
 use Rattle.sets.specs.Truth.{_and_, if_then_else_}
-use Rattle.sets.specs.Sets.{has, _∩_, _∖_, single, collect}
-use Rattle.sets.proofs.Truth.{by-test, either, equal-or, So-not, and-iff, if-true, if-false}
+use Rattle.sets.specs.Sets.{has, _∩_, _∪_, _∖_, single, subset, collect}
+use Rattle.sets.proofs.Truth.{by-test, either, equal-or, So-not, and-iff, ltb-iff, if-true, if-false}
 use Rattle.sets.proofs.Items.{has-zero, item-below, same-set}
-use Rattle.sets.proofs.Order.{∩-iff, ∖-iff, single-iff, collect-iff}
-use Rattle.sets.proofs.Counts.{ones-some}
+use Rattle.sets.proofs.Order.{∩-iff, ∪-iff, ∖-iff, single-iff, subset-iff, subset-refl, subset-trans, collect-iff}
+use Rattle.sets.proofs.Counts.{ones-some, ones-subset, ones-∖}
 use Rattle.model.specs.Lists.{setAt}
-use Rattle.model.specs.Hierarchy.{Roles, candidateCount, permissionSet, authorisedUsers}
+use Rattle.model.specs.Hierarchy.{Roles, candidateCount, permissionSet}
 use Rattle.model.specs.Coverage.{grant, covers}
 use Rattle.model.specs.Indexes.{rolesOfUser, rolesOfPermission}
 use Rattle.model.specs.Machine.{least, coverers, redundancy}
-use Rattle.model.proofs.Reading.{user-iff, covers-iff}
+use Rattle.model.proofs.Reading.{covers-iff}
 use Rattle.model.proofs.Shortcuts.{rolesOfUser-iff, rolesOfPermission-iff}
 use Rattle.model.proofs.PassOrder.{least-≤, least-≤-start, least-is}
-use Rattle.ordering.specs.Ranking.{LeastTo, Ranked}
+use Rattle.tables.specs.Stores.{putAt, wordsOf}
+use Rattle.tables.proofs.Stores.{length-putAt, stored-back, stored-before, stored-after}
+use Rattle.building.specs.Tables.{Zeros}
+use Rattle.building.proofs.Sources.{setAt-zero}
+use Rattle.ordering.specs.Ranking.{LeastTo, Nested, Ranked, Keyed, downFrom, upFrom}
 
 -- what a test of two numbers picks
 pub if-below : (a b x y : ℕ) → a < b → x ≡ (if ltb a b then x else y)
@@ -57,27 +60,29 @@ least-iff n f b x = (
 
 pub record Left (b s : ℕ) (P : ℕ → ℕ → Type 0) (m rest : ℕ) : Type 0 where
   pub bound : m ≤ b
+  pub within : (i : ℕ) → So (has rest i) → So (has s i)
   pub same : (x : ℕ) → ((x ≤ b) × ((i : ℕ) → So (has s i) → P x i)) ↔ ((x ≤ m) × ((i : ℕ) → So (has rest i) → P x i))
 
 left-start : (b s : ℕ) (P : ℕ → ℕ → Type 0) → Left b s P b s
-left-start b s P = record { bound = le-refl b; same = λ x. (λ h. h, λ h. h) }
+left-start b s P = record { bound = le-refl b; within = λ i t. t; same = λ x. (λ h. h, λ h. h) }
 
 module _ (b s : ℕ) (P : ℕ → ℕ → Type 0) (m rest : ℕ) (inv : Left b s P m rest) where
-  left-more : (i m' rest' : ℕ) → So (has rest i) → ((x : ℕ) → (x ≤ m') ↔ ((x ≤ m) × P x i)) → rest' ≡ rest ∖ single i → Left b s P m' rest'
-  left-more i m' rest' there step e =
+  -- the next item is done, and with it all that ask no more than it does
+  left-more : (i d m' rest' : ℕ) → So (has rest i) → ((x : ℕ) → (x ≤ m') ↔ ((x ≤ m) × P x i)) → ((x j : ℕ) → So (has d j) → P x i → P x j) → rest' ≡ rest ∖ d
+      → Left b s P m' rest'
+  left-more i d m' rest' there step easier e =
       record {
         bound = le-trans (step m' .0 (le-refl m') .0) (inv .bound);
+        within = λ j t. inv .within j (∖-iff rest d j .0 (rw e at t) .0);
         same = λ x. (
           λ h.
               let a = inv .same x .0 h in
-              (step x .1 (a .0, a .1 i there), λ j t. a .1 j (∖-iff rest (single i) j .0 (rw e at t) .0)),
+              (step x .1 (a .0, a .1 i there), λ j t. a .1 j (∖-iff rest d j .0 (rw e at t) .0)),
           λ h.
               let a = step x .0 (h .0) in
               inv .same x .1 (
                 a .0,
-                λ j t.
-                    equal-or j i (λ (d : j ≡ i). rw d (a .1))
-                    (λ d. h .1 j (rw e (∖-iff rest (single i) j .1 (t, λ y. d (sym (single-iff i j .0 y)))))),
+                λ j t. by-test (has d j) (λ y. easier x j y (a .1)) (λ y. h .1 j (rw e (∖-iff rest d j .1 (t, So-not y)))),
               ),
         );
       }
@@ -89,55 +94,84 @@ module _ (b s : ℕ) (P : ℕ → ℕ → Type 0) (m rest : ℕ) (inv : Left b s
   left-above : (i m' : ℕ) → So (has rest i) → ((x : ℕ) → x ≤ m → P x i → x ≤ m') → (x : ℕ) → x ≤ b → ((j : ℕ) → So (has s j) → P x j) → x ≤ m'
   left-above i m' there step x l h = let a = inv .same x .0 (l, h) in step x (a .0) (a .1 i there)
 
--- ---- one user
+-- what is dropped has the item that is done, so fewer are left
+pub dropped-fewer : (s d i : ℕ) → So (has s i) → So (has d i) → ones (s ∖ d) < ones s
+dropped-fewer s d i h t = let a = ones-∖ s d in let b = ones-some (s ∩ d) i (∩-iff s d i .1 (h, t)) in omega arith
+
+-- a larger set has no fewer items in common with others
+common-more : (s a b t : ℕ) → So (subset a b) → ones (a ∩ s ∩ t) ≤ ones (b ∩ s ∩ t)
+common-more s a b t h =
+    ones-subset (a ∩ s ∩ t) (b ∩ s ∩ t)
+    (subset-iff (a ∩ s ∩ t) (b ∩ s ∩ t) .1
+    (λ i x.
+    let y = ∩-iff (a ∩ s) t i .0 x in
+    let z = ∩-iff a s i .0 (y .0) in
+    ∩-iff (b ∩ s) t i .1 (∩-iff b s i .1 (subset-iff a b .0 h i (z .0), z .1), y .1)))
+
+meet-more : (s a b : ℕ) → So (subset a b) → ones (s ∩ a) ≤ ones (s ∩ b)
+meet-more s a b h =
+    ones-subset (s ∩ a) (s ∩ b)
+    (subset-iff (s ∩ a) (s ∩ b) .1 (λ i x. let y = ∩-iff s a i .0 x in ∩-iff s b i .1 (y .0, subset-iff a b .0 h i (y .1))))
+
+-- ---- one own role: `below` are the roles counted that are down from it
 
 abbrev One : List ℕ → ℕ → ℕ → ℕ → Type 0
-One holders own x p = x ≤ ones (own ∩ setAt 2 holders (2 * p))
+One up below x g = x ≤ ones (below ∩ setAt 2 up (2 * g))
 
-pub record Asking (holders : List ℕ) (own b s m rest : ℕ) : Type 0 where
-  pub left : Left b s (One holders own) m rest
+pub record Asking (up : List ℕ) (below b s m rest : ℕ) : Type 0 where
+  pub left : Left b s (One up below) m rest
 
-pub asking-start : (holders : List ℕ) (own b s : ℕ) → Asking holders own b s b s
-asking-start holders own b s = record { left = left-start b s (One holders own) }
+pub asking-start : (up : List ℕ) (below b s : ℕ) → Asking up below b s b s
+asking-start up below b s = record { left = left-start b s (One up below) }
 
-module _ (holders : List ℕ) (own b s m rest : ℕ) (inv : Asking holders own b s m rest) where
-  module _ (p held meet n m' : ℕ) (there : So (has rest p)) (eh : held ≡ setAt 2 holders (2 * p)) (em : meet ≡ own ∩ held) (en : n ≡ ones meet)
+module _ (down up : List ℕ) (c below b s m rest : ℕ) (nest : Nested down up c) (small : s < 2 ^ c) (inv : Asking up below b s m rest) where
+  module _ (g held meet n m' : ℕ) (there : So (has rest g)) (eh : held ≡ setAt 2 up (2 * g)) (em : meet ≡ below ∩ held) (en : n ≡ ones meet)
       (e : m' ≡ (if ltb n m then n else m)) where
-    number : n ≡ ones (own ∩ setAt 2 holders (2 * p))
-    number = en ∙ ap ones (em ∙ ap (λ (y : ℕ). own ∩ y) eh)
+    number : n ≡ ones (below ∩ setAt 2 up (2 * g))
+    number = en ∙ ap ones (em ∙ ap (λ (y : ℕ). below ∩ y) eh)
 
-    asked : (x : ℕ) → (x ≤ m') ↔ ((x ≤ m) × One holders own x p)
+    asked : (x : ℕ) → (x ≤ m') ↔ ((x ≤ m) × One up below x g)
     asked x = rw number at (smaller-iff n m m' e x)
 
-    pub asking-more : (rest' : ℕ) → rest' ≡ rest ∖ single p → Asking holders own b s m' rest'
-    asking-more rest' er = record { left = left-more b s (One holders own) m rest (inv .left) p m' rest' there asked er }
+    known : g < c
+    known = item-below c s g small (inv .left .within g there)
+
+    pub asking-more : (d rest' : ℕ) → d ≡ setAt 2 down (2 * g) → rest' ≡ rest ∖ d → Asking up below b s m' rest'
+    asking-more d rest' ed er =
+        record {
+          left =
+              left-more b s (One up below) m rest (inv .left) g d m' rest' there asked
+              (λ x j t l. le-trans l (meet-more below (setAt 2 up (2 * g)) (setAt 2 up (2 * j)) (nest .more-up g j known (rw ed at t)))) er;
+        }
+
+    pub asking-fewer : (d : ℕ) → d ≡ setAt 2 down (2 * g) → ones (rest ∖ d) < ones rest
+    asking-fewer d ed = dropped-fewer rest d g there (rw ed (nest .self-down g known))
 
     -- the floor is met
-    pub asking-stop : (floor : ℕ) → m' ≤ floor → LeastTo floor m' b s (λ p. ones (own ∩ setAt 2 holders (2 * p)))
+    pub asking-stop : (floor : ℕ) → m' ≤ floor → LeastTo floor m' b s (λ g. ones (below ∩ setAt 2 up (2 * g)))
     asking-stop floor l =
         record {
           bound = le-trans (asked m' .0 (le-refl m') .0) (inv .left .bound);
-          above = λ x h. left-above b s (One holders own) m rest (inv .left) p m' there (λ x y z. asked x .1 (y, z)) x (h .0) (h .1);
+          above = λ x h. left-above b s (One up below) m rest (inv .left) g m' there (λ x y z. asked x .1 (y, z)) x (h .0) (h .1);
           least = λ y. absurd (lt-irrefl floor (omega arith));
         }
 
-  pub asking-all : (floor : ℕ) → rest ≡ 0 → LeastTo floor m b s (λ p. ones (own ∩ setAt 2 holders (2 * p)))
+  pub asking-all : (floor : ℕ) → rest ≡ 0 → LeastTo floor m b s (λ g. ones (below ∩ setAt 2 up (2 * g)))
   asking-all floor e =
-      let a = left-none b s (One holders own) m rest (inv .left) e in
+      let a = left-none b s (One up below) m rest (inv .left) e in
       record { bound = inv .left .bound; above = λ x h. a x .1 h; least = λ y. a m .0 (le-refl m) }
 
--- ---- all users of a role. ps are its permissions, us its users
+-- ---- all own roles up from a role: ts. gs are the first holders down from it
 
--- x is no more than any number that user u gives
-abbrev User : List ℕ → List ℕ → List ℕ → ℕ → ℕ → ℕ → ℕ → Type 0
-User crew roles holders ps counted x u =
-    (p : ℕ) → So (has (ps ∩ setAt 4 crew (4 * u)) p) → x ≤ ones (setAt 2 roles (2 * u) ∩ counted ∩ setAt 2 holders (2 * p))
+-- x is no more than any number that own role r gives
+abbrev Top : List ℕ → List ℕ → ℕ → ℕ → ℕ → ℕ → Type 0
+Top down up gs counted x r = (g : ℕ) → So (has gs g) → x ≤ ones (setAt 2 down (2 * r) ∩ counted ∩ setAt 2 up (2 * g))
 
-pub record Walking (crew roles holders : List ℕ) (ps counted b us m people : ℕ) : Type 0 where
-  pub left : Left b us (User crew roles holders ps counted) m people
+pub record Walking (down up : List ℕ) (gs counted b ts m tops : ℕ) : Type 0 where
+  pub left : Left b ts (Top down up gs counted) m tops
 
-pub walking-start : (crew roles holders : List ℕ) (ps counted b us : ℕ) → Walking crew roles holders ps counted b us b us
-walking-start crew roles holders ps counted b us = record { left = left-start b us (User crew roles holders ps counted) }
+pub walking-start : (down up : List ℕ) (gs counted b ts : ℕ) → Walking down up gs counted b ts b ts
+walking-start down up gs counted b ts = record { left = left-start b ts (Top down up gs counted) }
 
 -- ---- the redundancy
 
@@ -193,6 +227,16 @@ coverers-index ρ s u p =
     let y = rolesOfPermission-iff ρ p k .0 (a .1) in
     ∩-iff (collect c test) s k .1 (collect-iff c test k .1 (x .0, covers-iff ρ k u p .1 (x .1, y .1)), b .1))
 
+-- which roles are down and up from one
+
+pub down-iff : (ρ : Roles) (k j : ℕ) → So (has (downFrom ρ k) j) ↔ ((j < candidateCount ρ) × So (subset (permissionSet ρ j) (permissionSet ρ k)))
+unfolding downFrom
+down-iff ρ k j = collect-iff (candidateCount ρ) (λ j. subset (permissionSet ρ j) (permissionSet ρ k)) j
+
+pub up-iff : (ρ : Roles) (k j : ℕ) → So (has (upFrom ρ k) j) ↔ ((j < candidateCount ρ) × So (subset (permissionSet ρ k) (permissionSet ρ j)))
+unfolding upFrom
+up-iff ρ k j = collect-iff (candidateCount ρ) (λ j. subset (permissionSet ρ k) (permissionSet ρ j)) j
+
 -- a role that is counted covers what it covers
 floor-under : (ρ : Roles) (s k floor : ℕ) → k < candidateCount ρ → floor ≡ (if has s k then 1 else 0) → floor ≤ redundancy ρ s k
 unfolding coverers
@@ -209,111 +253,198 @@ floor-under ρ s k floor lk e =
     ))
     (λ t. let none : floor ≡ 0 = e ∙ if-false (has s k) 1 0 t in omega arith)
 
-module _ (crew table roles users holders : List ℕ) (ps counted c us k : ℕ) (ep : ps ≡ setAt 4 table (4 * k)) (eu : us ≡ setAt 2 users (2 * k)) where
+-- the tables of any roles are nested
+pub nested : (ρ : Roles) (down up : List ℕ) (own first c : ℕ) → candidateCount ρ ≡ c → Ranked ρ down up own first → Nested down up c
+nested ρ down up own first c n a =
+    let S = permissionSet ρ in
+    let known : (k : ℕ) → k < c → k < candidateCount ρ = λ k l. rw n l in
+    record {
+      self-down = λ k l. rw (a .down-roles k (known k l)) (down-iff ρ k k .1 (known k l, subset-refl (S k)));
+      self-up = λ k l. rw (a .up-roles k (known k l)) (up-iff ρ k k .1 (known k l, subset-refl (S k)));
+      more-up = λ k j l t.
+          let b = down-iff ρ k j .0 (rw (a .down-roles k (known k l)) at t) in
+          rw (a .up-roles k (known k l), a .up-roles j (b .0))
+          (subset-iff (upFrom ρ k) (upFrom ρ j) .1
+          (λ i x. let y = up-iff ρ k i .0 x in up-iff ρ j i .1 (y .0, subset-trans (S j) (S k) (S i) (b .1) (y .1))));
+      more-down = λ k j l t.
+          let b = up-iff ρ k j .0 (rw (a .up-roles k (known k l)) at t) in
+          rw (a .down-roles k (known k l), a .down-roles j (b .0))
+          (subset-iff (downFrom ρ k) (downFrom ρ j) .1
+          (λ i x. let y = down-iff ρ k i .0 x in down-iff ρ j i .1 (y .0, subset-trans (S i) (S k) (S j) (y .1) (b .1))));
+    }
+
+module _ (down up : List ℕ) (own first counted c k downs ups gs ts : ℕ) (ed : downs ≡ setAt 2 down (2 * k)) (eg : gs ≡ downs ∩ first)
+    (eu : ups ≡ setAt 2 up (2 * k)) (et : ts ≡ ups ∩ own) where
   -- the numbers of the walk are those of the redundancy
-  walk-iff : (ρ : Roles) → Ranked ρ crew table roles users holders c → k < c → (x : ℕ)
-      → ((x ≤ c) × ((u : ℕ) → So (has us u) → User crew roles holders ps counted x u)) ↔ (x ≤ redundancy ρ counted k)
-  unfolding grant
-  walk-iff ρ a lk x =
-      let sets : ps ≡ permissionSet ρ k = ep ∙ a .role-sets k lk in
-      let persons : us ≡ authorisedUsers ρ k = eu ∙ a .role-users k lk in
-      let number : (u p : ℕ) → u < ρ .users → p < ρ .permissions → ones (setAt 2 roles (2 * u) ∩ counted ∩ setAt 2 holders (2 * p)) ≡ ones (coverers ρ u p ∩ counted) =
-      λ u p lu lp.
-      ap ones (ap₂ (λ (y z : ℕ). y ∩ counted ∩ z) (a .user-roles u lu) (a .permission-roles p lp) ∙ sym (coverers-index ρ counted u p)) in (
+  walk-iff : (ρ : Roles) → candidateCount ρ ≡ c → Ranked ρ down up own first → k < c → (x : ℕ)
+      → ((x ≤ c) × ((r : ℕ) → So (has ts r) → Top down up gs counted x r)) ↔ (x ≤ redundancy ρ counted k)
+  walk-iff ρ n a lk x =
+      let lc : k < candidateCount ρ = rw n lk in
+      let bottoms : gs ≡ downFrom ρ k ∩ first = eg ∙ ap (λ (y : ℕ). y ∩ first) (ed ∙ a .down-roles k lc) in
+      let tops : ts ≡ upFrom ρ k ∩ own = et ∙ ap (λ (y : ℕ). y ∩ own) (eu ∙ a .up-roles k lc) in
+      let number : (u p r g : ℕ) → r < candidateCount ρ → g < candidateCount ρ → rolesOfUser ρ u ≡ downFrom ρ r → rolesOfPermission ρ p ≡ upFrom ρ g
+      → ones (setAt 2 down (2 * r) ∩ counted ∩ setAt 2 up (2 * g)) ≡ ones (coverers ρ u p ∩ counted) =
+      λ u p r g lr lg er ep.
+      ap ones (ap₂ (λ (y z : ℕ). y ∩ counted ∩ z) (a .down-roles r lr ∙ sym er) (a .up-roles g lg ∙ sym ep) ∙ sym (coverers-index ρ counted u p)) in (
         λ w.
             redundancy-iff ρ counted k x .1 (
-              rw (a .count) (w .0),
-              λ u p lu lp g v.
+              rw n (w .0),
+              λ u p lu lp gr v.
                   let d = covers-iff ρ k u p .0 v in
-                  rw (number u p lu lp) at
-                  (w .1 u (rw persons (d .0)) p (∩-iff ps (setAt 4 crew (4 * u)) p .1 (rw sets (d .1), rw (a .crew-rows u lu) g))),
+                  let r = a .own-for u k lu (rolesOfUser-iff ρ u k .1 (lc, d .0)) in
+                  let g = a .first-for p k lp (rolesOfPermission-iff ρ p k .1 (lc, d .1)) in
+                  let kr = down-iff ρ (r .0) k .0 (rw (r .2) at (rolesOfUser-iff ρ u k .1 (lc, d .0))) in
+                  let kg = up-iff ρ (g .0) k .0 (rw (g .2) at (rolesOfPermission-iff ρ p k .1 (lc, d .1))) in
+                  let lr = item-below (candidateCount ρ) own (r .0) (a .own-below) (r .1) in
+                  let lg = item-below (candidateCount ρ) first (g .0) (a .first-below) (g .1) in
+                  rw (number u p (r .0) (g .0) lr lg (r .2) (g .2)) at
+                  (w .1 (r .0) (rw tops (∩-iff (upFrom ρ k) own (r .0) .1 (up-iff ρ k (r .0) .1 (lr, kr .1), r .1))) (g .0)
+                  (rw bottoms (∩-iff (downFrom ρ k) first (g .0) .1 (down-iff ρ k (g .0) .1 (lg, kg .1), g .1)))),
             ),
         λ h.
             let w = redundancy-iff ρ counted k x .0 h in (
-              rw (a .count) at (w .0),
-              λ u tu p tp.
-                  let au : So (has (authorisedUsers ρ k) u) = rw persons at tu in
-                  let lu = user-iff ρ k u .0 au .0 in
-                  let b = ∩-iff ps (setAt 4 crew (4 * u)) p .0 tp in
-                  let sp : So (has (permissionSet ρ k) p) = rw sets at (b .0) in
-                  let lp = item-below (ρ .permissions) (permissionSet ρ k) p (a .sets-below k lk) sp in
-                  rw (number u p lu lp) (w .1 u p lu lp (rw (a .crew-rows u lu) at (b .1)) (covers-iff ρ k u p .1 (au, sp))),
+              rw n at (w .0),
+              λ r tr g tg.
+                  let ar = ∩-iff (upFrom ρ k) own r .0 (rw tops at tr) in
+                  let ag = ∩-iff (downFrom ρ k) first g .0 (rw bottoms at tg) in
+                  let br = up-iff ρ k r .0 (ar .0) in
+                  let bg = down-iff ρ k g .0 (ag .0) in
+                  let u = a .own-of r (ar .1) in
+                  let p = a .first-of g (ag .1) in
+                  let ku = rolesOfUser-iff ρ (u .0) k .0 (rw (u .2) (down-iff ρ r k .1 (lc, br .1))) in
+                  let kp = rolesOfPermission-iff ρ (p .0) k .0 (rw (p .2) (up-iff ρ g k .1 (lc, bg .1))) in
+                  let v = covers-iff ρ k (u .0) (p .0) .1 (ku .1, kp .1) in
+                  rw (number (u .0) (p .0) r g (br .0) (bg .0) (u .2) (p .2)) (w .1 (u .0) (p .0) (u .1) (p .1) (a .granted k (u .0) (p .0) v) v),
             ),
       )
 
-  module _ (m people : ℕ) (inv : Walking crew roles holders ps counted c us m people) where
-    module _ (u all own row granted floor m' : ℕ) (there : So (has people u)) (ea : all ≡ setAt 2 roles (2 * u)) (eo : own ≡ all ∩ counted)
-        (er : row ≡ setAt 4 crew (4 * u)) (eg : granted ≡ ps ∩ row) (l : LeastTo floor m' m granted (λ p. ones (own ∩ setAt 2 holders (2 * p)))) where
-      told : LeastTo floor m' m (ps ∩ setAt 4 crew (4 * u)) (λ p. ones (setAt 2 roles (2 * u) ∩ counted ∩ setAt 2 holders (2 * p)))
-      told =
-          let d : own ≡ setAt 2 roles (2 * u) ∩ counted = eo ∙ ap (λ (y : ℕ). y ∩ counted) ea in
-          let g : granted ≡ ps ∩ setAt 4 crew (4 * u) = eg ∙ ap (λ (y : ℕ). ps ∩ y) er in
-          rw (d, g) at l
+  module _ (m tops : ℕ) (nest : Nested down up c) (small : own < 2 ^ c) (inv : Walking down up gs counted c ts m tops) where
+    module _ (r belows below floor m' : ℕ) (there : So (has tops r)) (eb : belows ≡ setAt 2 down (2 * r)) (ec : below ≡ belows ∩ counted)
+        (l : LeastTo floor m' m gs (λ g. ones (below ∩ setAt 2 up (2 * g)))) where
+      told : LeastTo floor m' m gs (λ g. ones (setAt 2 down (2 * r) ∩ counted ∩ setAt 2 up (2 * g)))
+      told = let d : below ≡ setAt 2 down (2 * r) ∩ counted = ec ∙ ap (λ (y : ℕ). y ∩ counted) eb in rw d at l
 
-      pub walking-more : (people' : ℕ) → floor < m' → people' ≡ people ∖ single u → Walking crew roles holders ps counted c us m' people'
-      walking-more people' more e =
+      top-known : r < c
+      top-known = item-below c own r small (∩-iff ups own r .0 (rw et at (inv .left .within r there)) .1)
+
+      pub walking-more : (d tops' : ℕ) → floor < m' → d ≡ setAt 2 up (2 * r) → tops' ≡ tops ∖ d → Walking down up gs counted c ts m' tops'
+      walking-more d tops' more e1 e2 =
           let a = told .least more in
           record {
             left =
-                left-more c us (User crew roles holders ps counted) m people (inv .left) u m' people' there
-                (λ x. (λ h. (le-trans h (a .0), λ p t. le-trans h (a .1 p t)), λ h. told .above x h)) e;
+                left-more c ts (Top down up gs counted) m tops (inv .left) r d m' tops' there
+                (λ x. (λ h. (le-trans h (a .0), λ g t. le-trans h (a .1 g t)), λ h. told .above x h))
+                (λ x j t h g tg.
+                le-trans (h g tg)
+                (common-more counted (setAt 2 down (2 * r)) (setAt 2 down (2 * j)) (setAt 2 up (2 * g)) (nest .more-down r j top-known (rw e1 at t)))) e2;
           }
+
+      pub walking-fewer : (d : ℕ) → d ≡ setAt 2 up (2 * r) → ones (tops ∖ d) < ones tops
+      walking-fewer d e1 = dropped-fewer tops d r there (rw e1 (nest .self-up r top-known))
 
       -- the floor is met: the redundancy is no more than what is found, and no less than the floor
       pub walking-stop : floor ≡ (if has counted k then 1 else 0) → m' ≤ floor
-          → (m' ≤ c) × ((ρ : Roles) → Ranked ρ crew table roles users holders c → k < c → m' ≡ redundancy ρ counted k)
+          → (m' ≤ c) × ((ρ : Roles) → candidateCount ρ ≡ c → Ranked ρ down up own first → k < c → m' ≡ redundancy ρ counted k)
       walking-stop ef stop = (
         le-trans (told .bound) (inv .left .bound),
-        λ ρ a lk.
-            let r = redundancy ρ counted k in
-            let w = walk-iff ρ a lk r .1 (le-refl r) in
-            let top = left-above c us (User crew roles holders ps counted) m people (inv .left) u m' there (λ x y z. told .above x (y, z)) r (w .0) (w .1) in
-            let low = floor-under ρ counted k floor (rw (a .count) lk) ef in
+        λ ρ n a lk.
+            let q = redundancy ρ counted k in
+            let w = walk-iff ρ n a lk q .1 (le-refl q) in
+            let top = left-above c ts (Top down up gs counted) m tops (inv .left) r m' there (λ x y z. told .above x (y, z)) q (w .0) (w .1) in
+            let low = floor-under ρ counted k floor (rw n lk) ef in
             omega arith,
       )
 
-    pub walking-all : people ≡ 0 → (m ≤ c) × ((ρ : Roles) → Ranked ρ crew table roles users holders c → k < c → m ≡ redundancy ρ counted k)
+    pub walking-all : tops ≡ 0 → (m ≤ c) × ((ρ : Roles) → candidateCount ρ ≡ c → Ranked ρ down up own first → k < c → m ≡ redundancy ρ counted k)
     walking-all e = (
       inv .left .bound,
-      λ ρ a lk.
+      λ ρ n a lk.
           same-number m (redundancy ρ counted k)
           (λ x.
-          let n = left-none c us (User crew roles holders ps counted) m people (inv .left) e x in
-          let w = walk-iff ρ a lk x in
-          (λ h. w .0 (n .0 h), λ h. n .1 (w .1 h))),
+          let z = left-none c ts (Top down up gs counted) m tops (inv .left) e x in
+          let w = walk-iff ρ n a lk x in
+          (λ h. w .0 (z .0 h), λ h. z .1 (w .1 h))),
     )
 
--- ---- the redundancies of a worklist, stored one by one
+-- ---- the roles of a worklist by their redundancy, put in one by one
 
-pub record Keyed (crew table roles users holders : List ℕ) (c counted worklist : ℕ) (keys : List ℕ) (rest : ℕ) : Type 0 where
-  pub size : length keys ≡ 128
+module _ (ranks : List ℕ) (q k x y : ℕ) (fits : length ranks ≡ 258) (low : q ≤ 128) (small : k < 128) (ex : x ≡ setAt 2 ranks (2 * q))
+    (ey : y ≡ (if ltb k 128 then x ∪ single k else x)) (by : y < 2 ^ 128) where
+  -- the table with role k put in at rank q
+  abbrev more : List ℕ
+  more = putAt ranks (2 * q) (wordsOf 2 y)
+
+  rank-iff : (j i : ℕ) → So (has (setAt 2 more (2 * j)) i) ↔ (So (has (setAt 2 ranks (2 * j)) i) ⊎ ((j ≡ q) × (i ≡ k)))
+  rank-iff j i =
+      let e : y ≡ setAt 2 ranks (2 * q) ∪ single k = ey ∙ if-true (ltb k 128) (x ∪ single k) x (ltb-iff k 128 .1 small) ∙ ap (λ (z : ℕ). z ∪ single k) ex in
+      let other : j ≢ q → setAt 2 more (2 * j) ≡ setAt 2 ranks (2 * j) =
+      λ d. either j q (λ l. stored-before ranks (2 * q) 2 y (2 * j) 2 (omega arith)) (λ l. stored-after ranks (2 * q) 2 y (2 * j) 2 (omega arith)) in
+      let same : setAt 2 more (2 * q) ≡ setAt 2 ranks (2 * q) ∪ single k = stored-back ranks (2 * q) 2 y (omega arith) by ∙ e in
+      equal-or j q
+      (λ (d : j ≡ q). (
+        λ t.
+            ⊎-elim (λ z. _⊎_.inl (rw d z)) (λ z. _⊎_.inr (d, sym (single-iff k i .0 z)))
+            (∪-iff (setAt 2 ranks (2 * q)) (single k) i .0 (rw same at (rw d at t))),
+        λ t.
+            rw d
+            (rw same
+            (∪-iff (setAt 2 ranks (2 * q)) (single k) i .1 (⊎-elim (λ z. _⊎_.inl (rw d at z)) (λ z. _⊎_.inr (single-iff k i .1 (sym (z .1)))) t))),
+      ))
+      (λ d. (λ t. _⊎_.inl (rw (other d) at t), λ t. rw (other d) (⊎-elim (λ z. z) (λ z. absurd (d (z .0))) t)))
+
+pub record Sorting (down up : List ℕ) (own first c counted worklist : ℕ) (ranks : List ℕ) (rest : ℕ) : Type 0 where
+  pub size : length ranks ≡ 258
   pub within : (k : ℕ) → So (has rest k) → So (has worklist k)
-  pub done : (ρ : Roles) → Ranked ρ crew table roles users holders c → worklist < 2 ^ c → (k : ℕ) → So (has worklist k) → (So (has rest k) → ⊥)
-      → getD keys k 0 ≡ redundancy ρ counted k
+  pub absent : (k q : ℕ) → So (has rest k) → q ≤ 128 → So (has (setAt 2 ranks (2 * q)) k) → ⊥
+  pub done : (ρ : Roles) → candidateCount ρ ≡ c → Ranked ρ down up own first → worklist < 2 ^ c → (k : ℕ) → So (has worklist k) → (So (has rest k) → ⊥)
+      → (redundancy ρ counted k ≤ 128) × ((q : ℕ) → q ≤ 128 → So (has (setAt 2 ranks (2 * q)) k) ↔ (q ≡ redundancy ρ counted k))
 
-pub keyed-start : (crew table roles users holders : List ℕ) (c counted worklist : ℕ) (keys : List ℕ) → length keys ≡ 128
-    → Keyed crew table roles users holders c counted worklist keys worklist
-keyed-start crew table roles users holders c counted worklist keys e =
-    record { size = e; within = λ k t. t; done = λ ρ a b k t out. absurd (out t) }
-
-pub keyed-more : (crew table roles users holders : List ℕ) (c counted worklist : ℕ) (keys : List ℕ) (rest k r rest' : ℕ)
-    → Keyed crew table roles users holders c counted worklist keys rest → So (has rest k) → k < 128
-    → ((ρ : Roles) → Ranked ρ crew table roles users holders c → k < c → r ≡ redundancy ρ counted k)
-    → rest' ≡ rest ∖ single k → Keyed crew table roles users holders c counted worklist (set keys k r) rest'
-keyed-more crew table roles users holders c counted worklist keys rest k r rest' inv there small tells er =
+pub sorting-start : (down up : List ℕ) (own first c counted worklist : ℕ) (ranks : List ℕ) → Zeros 258 ranks
+    → Sorting down up own first c counted worklist ranks worklist
+sorting-start down up own first c counted worklist ranks z =
     record {
-      size = length-set keys k r ∙ inv .size;
-      within = λ j t. inv .within j (∖-iff rest (single k) j .0 (rw er at t) .0);
-      done = λ ρ a b j t out.
-          let z = inv .size in
-          equal-or j k
-          (λ (d : j ≡ k). rw d (getD-set-same keys k r 0 (omega arith) ∙ tells ρ a (item-below c worklist k b (inv .within k there))))
-          (λ d.
-          getD-set-other keys k j r 0 d
-          ∙ inv .done ρ a b j t (λ x. out (rw er (∖-iff rest (single k) j .1 (x, λ y. d (sym (single-iff k j .0 y)))))));
+      size = z .size;
+      within = λ k t. t;
+      absent = λ k q t l h. So-not (has-zero k) (rw (setAt-zero 2 ranks (2 * q) (λ j lj. z .all-zero (2 * q + j))) at h);
+      done = λ ρ n a b k t out. absurd (out t);
     }
 
-pub keyed-all : (crew table roles users holders : List ℕ) (c counted worklist : ℕ) (keys : List ℕ) (rest : ℕ)
-    → Keyed crew table roles users holders c counted worklist keys rest → rest ≡ 0
-    → (ρ : Roles) → Ranked ρ crew table roles users holders c → worklist < 2 ^ c → (k : ℕ) → So (has worklist k) → getD keys k 0 ≡ redundancy ρ counted k
-keyed-all crew table roles users holders c counted worklist keys rest inv e ρ a b k t = inv .done ρ a b k t (λ x. So-not (has-zero k) (rw e at x))
+pub sorting-more : (down up : List ℕ) (own first c counted worklist : ℕ) (ranks : List ℕ) (rest k q x y rest' : ℕ)
+    → Sorting down up own first c counted worklist ranks rest → So (has rest k) → k < 128 → c ≤ 128
+    → (q ≤ c) × ((ρ : Roles) → candidateCount ρ ≡ c → Ranked ρ down up own first → k < c → q ≡ redundancy ρ counted k)
+    → x ≡ setAt 2 ranks (2 * q) → y ≡ (if ltb k 128 then x ∪ single k else x) → y < 2 ^ 128 → rest' ≡ rest ∖ single k
+    → Sorting down up own first c counted worklist (putAt ranks (2 * q) (wordsOf 2 y)) rest'
+sorting-more down up own first c counted worklist ranks rest k q x y rest' inv there small few tells ex ey by er =
+    let low : q ≤ 128 = le-trans (tells .0) few in
+    let put = rank-iff ranks q k x y (inv .size) low small ex ey by in
+    let left : (i : ℕ) → So (has rest' i) → So (has rest i) × (i ≢ k) =
+    λ i t. let a = ∖-iff rest (single k) i .0 (rw er at t) in (a .0, λ e. a .1 (single-iff k i .1 (sym e))) in
+    record {
+      size = length-putAt ranks (2 * q) (wordsOf 2 y) ∙ inv .size;
+      within = λ i t. inv .within i (left i t .0);
+      absent = λ i j t l h. ⊎-elim (λ z. inv .absent i j (left i t .0) l z) (λ z. left i t .1 (z .1)) (put j i .0 h);
+      done = λ ρ n a b i t out.
+          equal-or i k
+          (λ (d : i ≡ k).
+          let e : q ≡ redundancy ρ counted k = tells .1 ρ n a (item-below c worklist k b (inv .within k there)) in
+          rw d (
+            rw (sym e) low,
+            λ j l. (
+              λ h. ⊎-elim (λ z. absurd (inv .absent k j there l z)) (λ z. z .0 ∙ e) (put j k .0 h),
+              λ z. put j k .1 (_⊎_.inr (z ∙ sym e, refl)),
+            ),
+          ))
+          (λ d.
+          let o = inv .done ρ n a b i t (λ z. out (rw er (∖-iff rest (single k) i .1 (z, λ w. d (sym (single-iff k i .0 w)))))) in (
+            o .0,
+            λ j l. (
+              λ h. o .1 j l .0 (⊎-elim (λ z. z) (λ z. absurd (d (z .1))) (put j i .0 h)),
+              λ z. put j i .1 (_⊎_.inl (o .1 j l .1 z)),
+            ),
+          ));
+    }
+
+pub sorting-all : (down up : List ℕ) (own first c counted worklist : ℕ) (ranks : List ℕ) (rest : ℕ)
+    → Sorting down up own first c counted worklist ranks rest → rest ≡ 0
+    → (ρ : Roles) → candidateCount ρ ≡ c → Ranked ρ down up own first → worklist < 2 ^ c → Keyed ranks worklist (redundancy ρ counted)
+sorting-all down up own first c counted worklist ranks rest inv e ρ n a b k t = inv .done ρ n a b k t (λ x. So-not (has-zero k) (rw e at x))

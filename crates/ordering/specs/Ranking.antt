@@ -2,11 +2,13 @@
 -- Assumes nothing.
 use mathlib.Core.Path.{_≡_}
 use mathlib.Core.Bool.{So}
+use mathlib.Core.Logic.{_↔_}
 use mathlib.Core.List.{List}
-use Prim.Native.Nat.{ℕ, _^_, _≤_, _<_}
-use lib.ListN.{getD}
-use Rattle.sets.specs.Sets.{has}
-use Rattle.model.specs.Hierarchy.{Roles, candidateCount, permissionSet, authorisedUsers}
+use Prim.Native.Nat.{ℕ, _*_, _^_, _≤_, _<_}
+use Rattle.sets.specs.Sets.{has, subset, collect}
+use Rattle.model.specs.Lists.{setAt}
+use Rattle.model.specs.Hierarchy.{Roles, candidateCount, permissionSet}
+use Rattle.model.specs.Coverage.{grant, covers}
 use Rattle.model.specs.Indexes.{rolesOfUser, rolesOfPermission}
 use Rattle.tables.specs.Tables.{Holds}
 
@@ -21,13 +23,38 @@ pub record LeastTo (floor m b s : ℕ) (f : ℕ → ℕ) : Type 0 where
   pub above : (x : ℕ) → Under b s f x → x ≤ m
   pub least : floor < m → Under b s f m
 
--- c candidates within the permissions; the crew rows, the roles' sets, the roles of each user, the users of each role, and the roles that
--- hold each permission
-pub record Ranked (ρ : Roles) (crew table roles users holders : List ℕ) (c : ℕ) : Type 0 where
-  pub count : candidateCount ρ ≡ c
-  pub sets-below : (k : ℕ) → k < c → permissionSet ρ k < 2 ^ ρ .permissions
-  pub crew-rows : Holds 4 (ρ .users) (λ u. getD (ρ .granted) u 0) crew
-  pub role-sets : Holds 4 c (permissionSet ρ) table
-  pub user-roles : Holds 2 (ρ .users) (rolesOfUser ρ) roles
-  pub role-users : Holds 2 c (authorisedUsers ρ) users
-  pub permission-roles : Holds 2 (ρ .permissions) (rolesOfPermission ρ) holders
+-- the candidates whose set lies within S(k), and those whose set S(k) lies within: k is in both
+unfoldable pub downFrom : Roles → ℕ → ℕ
+downFrom ρ k = collect (candidateCount ρ) (λ j. subset (permissionSet ρ j) (permissionSet ρ k))
+
+unfoldable pub upFrom : Roles → ℕ → ℕ
+upFrom ρ k = collect (candidateCount ρ) (λ j. subset (permissionSet ρ k) (permissionSet ρ j))
+
+-- tables of the roles down and up from each of c roles: a role is in its own entries, one further down has no fewer roles up from it, and one
+-- further up no fewer down from it
+pub record Nested (down up : List ℕ) (c : ℕ) : Type 0 where
+  pub self-down : (k : ℕ) → k < c → So (has (setAt 2 down (2 * k)) k)
+  pub self-up : (k : ℕ) → k < c → So (has (setAt 2 up (2 * k)) k)
+  pub more-up : (k j : ℕ) → k < c → So (has (setAt 2 down (2 * k)) j) → So (subset (setAt 2 up (2 * k)) (setAt 2 up (2 * j)))
+  pub more-down : (k j : ℕ) → k < c → So (has (setAt 2 up (2 * k)) j) → So (subset (setAt 2 down (2 * k)) (setAt 2 down (2 * j)))
+
+-- the items of s are those that P picks from one of the first n entries of the table
+abbrev pub Picked : (ℕ → ℕ → Type 0) → ℕ → List ℕ → ℕ → Type 0
+Picked P n ws s = (i : ℕ) → So (has s i) ↔ ((j : ℕ) × (j < n) × P (setAt 2 ws (2 * j)) i)
+
+-- the tables of the roles down and up from each; in `own` each user's own role, so that the user's roles are those down from it; in `first` each
+-- permission's first holder, so that its holders are those up from it
+pub record Ranked (ρ : Roles) (down up : List ℕ) (own first : ℕ) : Type 0 where
+  pub down-roles : Holds 2 (candidateCount ρ) (downFrom ρ) down
+  pub up-roles : Holds 2 (candidateCount ρ) (upFrom ρ) up
+  pub granted : (k u p : ℕ) → So (covers ρ k u p) → So (grant ρ u p)
+  pub own-below : own < 2 ^ candidateCount ρ
+  pub own-of : (r : ℕ) → So (has own r) → (u : ℕ) × (u < ρ .users) × (rolesOfUser ρ u ≡ downFrom ρ r)
+  pub own-for : (u k : ℕ) → u < ρ .users → So (has (rolesOfUser ρ u) k) → (r : ℕ) × So (has own r) × (rolesOfUser ρ u ≡ downFrom ρ r)
+  pub first-below : first < 2 ^ candidateCount ρ
+  pub first-of : (g : ℕ) → So (has first g) → (p : ℕ) × (p < ρ .permissions) × (rolesOfPermission ρ p ≡ upFrom ρ g)
+  pub first-for : (p k : ℕ) → p < ρ .permissions → So (has (rolesOfPermission ρ p) k) → (g : ℕ) × So (has first g) × (rolesOfPermission ρ p ≡ upFrom ρ g)
+
+-- the roles of s by their keys, none above 128: of them, entry q of the table has those whose key is q
+abbrev pub Keyed : List ℕ → ℕ → (ℕ → ℕ) → Type 0
+Keyed ranks s key = (k : ℕ) → So (has s k) → (key k ≤ 128) × ((q : ℕ) → q ≤ 128 → So (has (setAt 2 ranks (2 * q)) k) ↔ (q ≡ key k))

@@ -4,20 +4,21 @@ ghost use mathlib.Core.Bool.{So};
 ghost use Prim.Native.Nat.{ℕ, _*_, _^_, _≤_, _<_};
 ghost use lib.Count.{ones};
 ghost use lib.Dec.{ltb};
-ghost use lib.ListN.{length, getD};
-ghost use Rattle.sets.specs.Held.{set128, set256};
+ghost use lib.ListN.{length};
+ghost use Rattle.sets.specs.Held.{set128};
 ghost use Rattle.sets.specs.Sets.{has, _∩_};
 ghost use Rattle.sets.specs.Truth.{if_then_else_};
 ghost use Rattle.model.specs.Lists.{setAt};
-ghost use Rattle.model.specs.Hierarchy.{Roles};
+ghost use Rattle.model.specs.Hierarchy.{Roles, candidateCount};
 ghost use Rattle.model.specs.Machine.{redundancy};
-ghost use Rattle.ordering.specs.Ranking.{LeastTo, Ranked};
-use coverage::lowest_permission;
+ghost use Rattle.building.specs.Tables.{Zeros};
+ghost use Rattle.ordering.specs.Ranking.{LeastTo, Nested, Ranked, Keyed};
+use crate::ends::Ends;
+use hierarchy::highest_item;
 use hierarchy::lowest_item;
 use sets::Set128;
-use sets::Set256;
 use tables::load128;
-use tables::load256;
+use tables::store128;
 
 fn smaller(a: usize, b: usize) -> usize
     ensures { λ r. ⌜ r ≡ (if ltb a b then a else b) ⌝ }
@@ -38,83 +39,82 @@ fn floor_of(counted: Set128, k: usize) -> usize
     0
 }
 
-// One user's part: the least of `bound` and, over these permissions, of how many roles of `own` hold the permission. The walk stops at the
-// floor.
-fn least_of_user(
-    holders: &[u64],
-    own: Set128,
-    permissions: Set256,
+// One own role's part: the least of `bound` and, over these first holders, of how many roles of `below` are up from the first holder. Those down
+// from one that was asked have no fewer up from them, so they are not asked. The walk stops at the floor.
+fn least_above(
+    down: &[u64],
+    up: &[u64],
+    c: usize,
+    below: Set128,
+    bottoms: Set128,
     bound: usize,
     floor: usize,
 ) -> usize
-    requires { ⌜ length (now holders) ≡ 512 ⌝ }
-    ensures { λ r. ⌜ LeastTo floor r bound (set256 permissions) (λ p. ones (set128 own ∩ setAt 2 (now (holders .entry)) (2 * p))) ⌝ }
+    requires { ⌜ (length (now down) ≡ 256) × (length (now up) ≡ 256) × (c ≤ 128) × Nested (now down) (now up) c × (set128 bottoms < 2 ^ c) ⌝ }
+    ensures { λ r. ⌜ LeastTo floor r bound (set128 bottoms) (λ g. ones (set128 below ∩ setAt 2 (now (up .entry)) (2 * g))) ⌝ }
 {
     let mut least = bound;
-    let mut asked = permissions;
-    while !asked.is_empty() {
-        let p = lowest_permission(asked);
-        least = smaller(own.intersection(load128(holders, 2 * p)).count(), least);
+    let mut rest = bottoms;
+    while !rest.is_empty() {
+        let g = highest_item(rest);
+        least = smaller(below.intersection(load128(up, 2 * g)).count(), least);
         if least <= floor {
             return least;
         }
-        asked = asked.remove(p);
+        rest = rest.difference(load128(down, 2 * g));
     }
     least
 }
 
-// The least, over the grants that role k covers, of the number of roles of `counted` that cover the grant; c where k covers none.
+// The least, over the grants that role k covers, of the number of roles of `counted` that cover the grant; c where k covers none. Those that cover a
+// grant lie between the first holder of its permission and the own role of its user. So only the own roles up from k and the first holders down
+// from it are asked, and of these the nearest: the others have more roles between them.
 pub fn redundancy(
-    crew: &[u64],
-    table: &[u64],
-    roles: &[u64],
-    users: &[u64],
-    holders: &[u64],
+    down: &[u64],
+    up: &[u64],
+    ends: Ends,
     c: usize,
     counted: Set128,
     k: usize,
 ) -> usize
-    requires { ⌜ (length (now crew) ≡ 512) × (length (now table) ≡ 512) × (length (now roles) ≡ 256) × (length (now users) ≡ 256) × (length (now holders) ≡ 512) × (c ≤ 128) × (k < 128) ⌝ }
-    ensures { λ r. ⌜ (r ≤ c) × ((ρ : Roles) → Ranked ρ (now (crew .entry)) (now (table .entry)) (now (roles .entry)) (now (users .entry)) (now (holders .entry)) c → k < c → r ≡ redundancy ρ (set128 counted) k) ⌝ }
+    requires { ⌜ (length (now down) ≡ 256) × (length (now up) ≡ 256) × (c ≤ 128) × (k < 128) × Nested (now down) (now up) c × (set128 (ends .own) < 2 ^ c) × (set128 (ends .first) < 2 ^ c) ⌝ }
+    ensures { λ r. ⌜ (r ≤ c) × ((ρ : Roles) → candidateCount ρ ≡ c → Ranked ρ (now (down .entry)) (now (up .entry)) (set128 (ends .own)) (set128 (ends .first)) → k < c → r ≡ redundancy ρ (set128 counted) k) ⌝ }
 {
     let floor = floor_of(counted, k);
-    let permissions = load256(table, 4 * k);
+    let bottoms = load128(down, 2 * k).intersection(ends.first);
     let mut least = c;
-    let mut people = load128(users, 2 * k);
-    while !people.is_empty() {
-        let u = lowest_item(people);
-        let all = load128(roles, 2 * u);
-        let own = all.intersection(counted);
-        let granted = permissions.intersection(load256(crew, 4 * u));
-        least = least_of_user(holders, own, granted, least, floor);
+    let mut tops = load128(up, 2 * k).intersection(ends.own);
+    while !tops.is_empty() {
+        let r = lowest_item(tops);
+        let below = load128(down, 2 * r).intersection(counted);
+        least = least_above(down, up, c, below, bottoms, least, floor);
         if least <= floor {
             return least;
         }
-        people = people.remove(u);
+        tops = tops.difference(load128(up, 2 * r));
     }
     least
 }
 
-// The redundancy of each role of the worklist, at the role's number. A pass computes them once: it "orders the worklist from the state at its
-// start".
-pub fn fill_keys(
-    crew: &[u64],
-    table: &[u64],
-    roles: &[u64],
-    users: &[u64],
-    holders: &[u64],
+// The roles of the worklist by their redundancy: the roles of redundancy q at entry q of the table. A pass computes them once: it "orders the
+// worklist from the state at its start".
+pub fn fill_ranks(
+    down: &[u64],
+    up: &[u64],
+    ends: Ends,
     c: usize,
     counted: Set128,
     worklist: Set128,
-    keys: &mut [u64],
+    ranks: &mut [u64],
 )
-    requires { ⌜ (length (now crew) ≡ 512) × (length (now table) ≡ 512) × (length (now roles) ≡ 256) × (length (now users) ≡ 256) × (length (now holders) ≡ 512) × (c ≤ 128) × (length (now keys) ≡ 128) ⌝ }
-    ensures { λ r. ⌜ ((ρ : Roles) → Ranked ρ (now (crew .entry)) (now (table .entry)) (now (roles .entry)) (now (users .entry)) (now (holders .entry)) c → set128 worklist < 2 ^ c → (k : ℕ) → So (has (set128 worklist) k) → getD (now (keys .exit)) k 0 ≡ redundancy ρ (set128 counted) k) ⌝ }
+    requires { ⌜ (length (now down) ≡ 256) × (length (now up) ≡ 256) × (c ≤ 128) × Nested (now down) (now up) c × (set128 (ends .own) < 2 ^ c) × (set128 (ends .first) < 2 ^ c) × Zeros 258 (now ranks) ⌝ }
+    ensures { λ r. ⌜ ((ρ : Roles) → candidateCount ρ ≡ c → Ranked ρ (now (down .entry)) (now (up .entry)) (set128 (ends .own)) (set128 (ends .first)) → set128 worklist < 2 ^ c → Keyed (now (ranks .exit)) (set128 worklist) (redundancy ρ (set128 counted))) ⌝ }
 {
     let mut rest = worklist;
     while !rest.is_empty() {
         let k = lowest_item(rest);
-        keys[k] = redundancy(crew, table, roles, users, holders, c, counted, k) as u64;
+        let rank = redundancy(down, up, ends, c, counted, k);
+        store128(ranks, 2 * rank, load128(ranks, 2 * rank).insert(k));
         rest = rest.remove(k);
     }
 }

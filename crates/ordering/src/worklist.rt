@@ -13,10 +13,10 @@ ghost use Rattle.model.specs.State.{State, rolesOf};
 ghost use Rattle.model.proofs.Record.{Limits};
 ghost use Rattle.tables.specs.Tables.{Holds};
 ghost use Rattle.building.specs.Tables.{Indexed};
-use editing::STANDING;
 use editing::removable;
 use hierarchy::lowest_item;
 use sets::Set128;
+use tables::STANDING;
 use tables::load128;
 
 // The set with k in it where `strikable` says so.

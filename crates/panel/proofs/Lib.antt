@@ -1,3 +1,1 @@
-pub mod Mining
-mod Telling
 pub mod Serving

@@ -33,13 +33,17 @@ use Rattle.tables.specs.Stores.{putAt}
 use Rattle.panel.specs.declared.list.Outcome.{Outcome}
 use Rattle.panel.specs.declared.list.Served.{Served}
 use Rattle.panel.specs.declared.list.Served.the-variants.{Unreadable, Refused, Mined}
-use Rattle.panel.specs.declared.mine.MineAnswer.{MineAnswer}
-use Rattle.calls.specs.declared.strike.StrikeAnswer.{StrikeAnswer}
-use Rattle.calls.specs.declared.restore.RestoreAnswer.{RestoreAnswer}
-use Rattle.calls.specs.declared.eliminate.EliminateAnswer.{EliminateAnswer}
-use Rattle.calls.specs.declared.review.ReviewAnswer.{ReviewAnswer}
-use Rattle.calls.specs.Answers.{struck, restored, eliminateGiven, reviewGiven, toleranceOf}
-use Rattle.panel.specs.Answers.{mined, outcome}
+use Rattle.call_mine.specs.declared.MineAnswer.{MineAnswer}
+use Rattle.call_strike.specs.declared.StrikeAnswer.{StrikeAnswer}
+use Rattle.call_restore.specs.declared.RestoreAnswer.{RestoreAnswer}
+use Rattle.call_eliminate.specs.declared.EliminateAnswer.{EliminateAnswer}
+use Rattle.call_review.specs.declared.ReviewAnswer.{ReviewAnswer}
+use Rattle.call_mine.specs.Answers.{mined}
+use Rattle.call_strike.specs.Answers.{struck}
+use Rattle.call_restore.specs.Answers.{restored}
+use Rattle.call_eliminate.specs.Answers.{eliminateGiven, toleranceOf}
+use Rattle.call_review.specs.Answers.{reviewGiven}
+use Rattle.panel.specs.Answers.{outcome}
 use Rattle.panel.specs.Lists.{callAt, callsFrom, callsIn, readable, answerWords, Condition3, ServedAs}
 
 -- ---- one call by its kind

@@ -20,7 +20,7 @@ use Rattle.model.specs.Machine.Call.{strike, restore, eliminate, review}
 use Rattle.model.specs.Calls.{miningRefusal}
 use Rattle.model.specs.Claim.{wordsAfter}
 use Rattle.reading.specs.Reading.{weightsOf}
-use Rattle.calls.specs.Answers.{toleranceOf}
+use Rattle.call_eliminate.specs.Answers.{toleranceOf}
 use Rattle.panel.specs.declared.list.Served.{Served}
 use Rattle.panel.specs.declared.list.Served.the-variants.{Unreadable, Refused, Mined}
 

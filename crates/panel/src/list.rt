@@ -7,11 +7,11 @@ ghost use Rattle.model.specs.Calls.{edit};
 ghost use Rattle.model.specs.Claim.{wordsAfter, answersGiven};
 ghost use Rattle.panel.specs.Answers.{outcome};
 ghost use Rattle.panel.specs.Lists.{callAt, callsIn, readable, answerWords, ServedAs};
-use crate::change::panel_eliminate;
-use crate::change::panel_restore;
-use crate::change::panel_review;
-use crate::change::panel_strike;
-use crate::mine::panel_mine;
+use crate::exports::panel_eliminate;
+use crate::exports::panel_mine;
+use crate::exports::panel_restore;
+use crate::exports::panel_review;
+use crate::exports::panel_strike;
 use tables::copy;
 
 // The words of a call, and those of its answer.

@@ -1,7 +1,6 @@
 // What is read out of a record of 2,056 words: the counts and the quality of its rows, and who may do what.
 mod quality;
 mod reach;
-mod regions;
 mod rights;
 
 pub use quality::Counts;

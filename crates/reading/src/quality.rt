@@ -9,12 +9,11 @@ ghost use Rattle.model.specs.Lists.{setAt};
 ghost use Rattle.model.specs.Record.{recordLength, rowsOf};
 ghost use Rattle.model.specs.Quality as model;
 ghost use Rattle.reading.specs.Reading.{countsOf, weightsOf, Few};
-use crate::regions::END;
-use crate::regions::JUNIORS;
-use crate::regions::MEMBERS;
-use crate::regions::PERMISSIONS;
-use crate::regions::ROLES;
-use crate::regions::STANDING;
+use tables::JUNIORS;
+use tables::LENGTH;
+use tables::MEMBERS;
+use tables::PERMISSIONS;
+use tables::STANDING;
 use tables::load128;
 use tables::load256;
 
@@ -32,11 +31,11 @@ pub fn count_rows(rec: &[u64]) -> Counts
     requires { ⌜ (length (now rec) ≡ recordLength) × (getD (now rec) 2 0 ≤ 128) ⌝ }
     ensures { λ r. ⌜ (countsOf r ≡ model.counted (getD (now (rec .entry)) 2 0) (rowsOf (now (rec .entry))) (setAt 2 (now (rec .entry)) 4)) × Few r ⌝ }
 {
-    let c = rec[ROLES] as usize;
+    let c = rec[2] as usize;
     let roles = load128(rec, STANDING).count();
     let members = count128(&rec[MEMBERS..JUNIORS], c);
     let permissions = count256(&rec[PERMISSIONS..MEMBERS], c);
-    let links = count128(&rec[JUNIORS..END], c);
+    let links = count128(&rec[JUNIORS..LENGTH], c);
     Counts {
         roles: roles as u64,
         members: members as u64,

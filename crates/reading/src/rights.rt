@@ -12,22 +12,21 @@ ghost use Rattle.model.specs.Chains as model;
 ghost use Rattle.model.specs.State.{rolesOf};
 ghost use Rattle.model.specs.Record.{recordLength, stateOf, rowsOf, sound};
 use crate::reach::reached_from;
-use crate::regions::END;
-use crate::regions::JUNIORS;
-use crate::regions::MEMBERS;
-use crate::regions::PERMISSIONS;
-use crate::regions::ROLES;
-use hierarchy::column;
+use columns::column;
 use sets::Set128;
+use tables::JUNIORS;
+use tables::LENGTH;
+use tables::MEMBERS;
+use tables::PERMISSIONS;
 use tables::load256;
 
 pub fn may(rec: &[u64], u: usize, p: usize) -> bool
     requires { ⌜ (length (now rec) ≡ recordLength) × (getD (now rec) 2 0 ≤ 128) ⌝ }
     ensures { λ r. ⌜ (So (sound (now (rec .entry))) → r ≡ model.may (candidateCount (rolesOf (stateOf (now (rec .entry))))) (rowsOf (now (rec .entry))) u p) ⌝ }
 {
-    let c = rec[ROLES] as usize;
+    let c = rec[2] as usize;
     let direct = column(&rec[MEMBERS..JUNIORS], c, u);
-    let reached = reached_from(&rec[JUNIORS..END], direct);
+    let reached = reached_from(&rec[JUNIORS..LENGTH], direct);
     some_has(&rec[PERMISSIONS..MEMBERS], reached, p)
 }
 

@@ -76,30 +76,6 @@ padded-state st rec crew table at n c t h =
       set-words = t .set-words;
     }
 
--- ---- the limits
-
-refuse : (n m : ℕ) (rows : List ℕ) → (((1 ≤ n) × (n ≤ 128) × (1 ≤ m) × (m ≤ 256)) → ⊥) → false ≡ (withinLimits n m and rowsWithin m rows)
-refuse n m rows d =
-    sym (not-So (withinLimits n m and rowsWithin m rows) (λ h. d (withinLimits-iff n m .0 (and-iff (withinLimits n m) (rowsWithin m rows) .0 h .0))))
-
-pub few-users : (n m : ℕ) (rows : List ℕ) → n < 1 → false ≡ (withinLimits n m and rowsWithin m rows)
-few-users n m rows l = refuse n m rows (λ w. let a = w .0 in let z : ⊥ = omega arith in z)
-
-pub many-users : (n m : ℕ) (rows : List ℕ) → 128 < n → false ≡ (withinLimits n m and rowsWithin m rows)
-many-users n m rows l = refuse n m rows (λ w. let a = w .1 in let z : ⊥ = omega arith in z)
-
-pub few-permissions : (n m : ℕ) (rows : List ℕ) → m < 1 → false ≡ (withinLimits n m and rowsWithin m rows)
-few-permissions n m rows l = refuse n m rows (λ w. let a = w .2 in let z : ⊥ = omega arith in z)
-
-pub many-permissions : (n m : ℕ) (rows : List ℕ) → 256 < m → false ≡ (withinLimits n m and rowsWithin m rows)
-many-permissions n m rows l = refuse n m rows (λ w. let a = w .3 in let z : ⊥ = omega arith in z)
-
-pub limits-kept : (n m : ℕ) (t : Bool) (rows : List ℕ) → 1 ≤ n → n ≤ 128 → 1 ≤ m → m ≤ 256 → t ≡ rowsWithin m rows → t ≡ (withinLimits n m and rowsWithin m rows)
-limits-kept n m t rows n1 n128 m1 m256 e =
-    e ∙ same-test (rowsWithin m rows) (withinLimits n m and rowsWithin m rows)
-    (λ h. and-iff (withinLimits n m) (rowsWithin m rows) .1 (withinLimits-iff n m .1 (n1, n128, m1, m256), h))
-    (λ h. and-iff (withinLimits n m) (rowsWithin m rows) .0 h .1)
-
 -- ---- the words
 
 pub same-as-built : (st : State) (rec fresh : List ℕ) (t : Bool) → fresh ≡ built st

@@ -18,15 +18,18 @@ ghost use Rattle.building.specs.Tables.{Source, Indexed, Built, Zeros};
 ghost use Rattle.records.specs.Records.{Tabled};
 use crate::cover::all_covered;
 use crate::cover::rows_within;
-use crate::write::CREW;
 use crate::write::write_record;
 use building::fill_indexes;
 use building::fill_rows;
 use mining::Mined;
 use mining::mine;
 use sets::Set128;
+use tables::CREW;
+use tables::LENGTH;
+use tables::STANDING;
 use tables::copy;
 use tables::holds;
+use tables::limits_kept;
 use tables::load128;
 
 // Copies the n rows that stand in `crew` from place `at` on to the start of a table of zeros.
@@ -44,16 +47,7 @@ fn within(rec: &[u64]) -> bool
 {
     let n = rec[0];
     let m = rec[1];
-    if n < 1 {
-        return false;
-    }
-    if 128 < n {
-        return false;
-    }
-    if m < 1 {
-        return false;
-    }
-    if 256 < m {
+    if !limits_kept(n, m) {
         return false;
     }
     rows_within(rec, CREW, n as usize, m as usize)
@@ -76,7 +70,7 @@ fn same_words(
 {
     let mut crew = [0u64; 512];
     pad(rec, CREW, n, &mut crew);
-    let mut fresh = [0u64; 2056];
+    let mut fresh = [0u64; LENGTH];
     write_record(
         &mut fresh,
         n as u64,
@@ -168,7 +162,7 @@ pub fn is_sound(rec: &[u64], low: &mut [u64], roles: &mut [u64], users: &mut [u6
     let Mined::Count(c) = mine(rec, CREW, n, &mut table) else {
         return false;
     };
-    let standing = load128(rec, 4);
+    let standing = load128(rec, STANDING);
     if !standing.is_subset(Set128::below(c)) {
         return false;
     }

@@ -2,6 +2,7 @@
 mod check;
 mod cover;
 mod fresh;
+mod sound;
 mod write;
 
 pub use check::is_sound;
@@ -9,10 +10,5 @@ pub use check::pad;
 pub use cover::all_covered;
 pub use cover::rows_within;
 pub use fresh::write_fresh;
-pub use write::CREW;
-pub use write::JUNIORS;
-pub use write::LENGTH;
-pub use write::MEMBERS;
-pub use write::PERMISSIONS;
-pub use write::SETS;
+pub use sound::record_sound;
 pub use write::write_record;

@@ -11,20 +11,12 @@ ghost use Rattle.tables.specs.Stores.{putAt};
 ghost use Rattle.building.specs.Tables.{Source, Built};
 ghost use Rattle.records.specs.Records.{Padded};
 use sets::Set128;
+use tables::CREW;
+use tables::JUNIORS;
+use tables::MEMBERS;
+use tables::PERMISSIONS;
+use tables::SETS;
 use tables::copy;
-
-// Where each region starts.
-pub const LENGTH: usize = 2056;
-
-pub const CREW: usize = 8;
-
-pub const SETS: usize = 520;
-
-pub const PERMISSIONS: usize = 1032;
-
-pub const MEMBERS: usize = 1544;
-
-pub const JUNIORS: usize = 1800;
 
 fn write_header(rec: &mut [u64], n: u64, m: u64, c: u64, standing: Set128)
     requires { ⌜ length (now rec) ≡ recordLength ⌝ }

@@ -7,15 +7,15 @@ ghost use Rattle.model.specs.Quality.{weightsAllowed};
 ghost use Rattle.model.specs.Record.{recordLength, stateOf};
 ghost use Rattle.model.specs.State.{rolesOf};
 ghost use Rattle.trials.specs.Trying.{weightsIn, runAt, Kin, Going};
-use editing::STANDING;
-use editing::take_out;
+use editing::put_back_at;
 use reading::weigh;
+use tables::STANDING;
 use tables::load128;
 use trials::Progress;
 use trials::Weights;
-use trials::restore_counted;
+use trials::if_restored;
 
-// Takes up the candidate k, where it is absent: it is put back, and stays where the quality is then strictly smaller.
+// Takes up the candidate k, where it is absent: it is put back where the quality would then be strictly smaller, and else nothing is written.
 pub fn try_restore(
     rec: &mut [u64],
     low: &[u64],
@@ -31,21 +31,26 @@ pub fn try_restore(
         return at;
     }
     let before = at.counts;
-    let counts = restore_counted(rec, low, users, before, k);
+    let trial = if_restored(rec, low, users, before, k);
+    let counts = trial.counts;
+    let seniors = trial.seniors;
+    let juniors = trial.juniors;
     let quality = weigh(counts, w.role, w.member, w.permission, w.link);
+    let changed = at.changed + 1;
+    let examined = at.examined + 1;
     if quality < at.quality {
+        put_back_at(rec, low, users, k, seniors, juniors);
         return Progress {
             counts,
             quality,
-            changed: at.changed + 1,
-            examined: at.examined + 1,
+            changed,
+            examined,
         };
     }
-    take_out(rec, low, users, k);
     Progress {
         counts: before,
         quality: at.quality,
         changed: at.changed,
-        examined: at.examined + 1,
+        examined,
     }
 }

@@ -3,17 +3,17 @@
 use mathlib.Core.Path.{_≡_, refl, sym, _∙_, ap}
 use mathlib.Core.Bool.{Bool, true, false, So}
 use mathlib.Core.Logic.{_↔_, _≢_, _⊎_, ⊎-elim}
-use Prim.Native.Nat.{ℕ, zero, suc, _+_, _-_, _/_, _%_, _^_, _≤_, _<_}
-use native.Mathlib.Nat.{pow-suc, suc-inj, pow-succ', lt-of-le-of-lt, not-suc-le-zero}
+use Prim.Native.Nat.{ℕ, zero, suc, _+_, _-_, _*_, _/_, _%_, _^_, _≤_, _<_, min}
+use native.Mathlib.Nat.{pow-suc, suc-inj, pow-succ', lt-of-le-of-lt, not-suc-le-zero, zero-mul, add-comm, add-assoc, add-mul, mul-assoc}
 use native.Mathlib.Omega.{arith}
 use lib.Dec.{eqb, ltb}
-use lib.Pow.{pow-pos, pow-lt, high, low}
+use lib.Pow.{pow-pos, pow-lt, pow-add, high, low}
 use lib.Bits.{bitAnd, and-le-r, or-lt, and-comm, and-self, and-zero-l, or-zero-l, or-zero-r}
 use lib.Arith.{lt-of-le-ne, digits-lt}
 use borrow.Author.Tests.{ne-eqb}
 use Rattle.sets.specs.Truth.{isnt, if_then_else_, bit}
 use Rattle.sets.specs.Sets.{has, _∩_, _∪_, _∖_, single, subset, properSubset, collect}
-use Rattle.sets.proofs.Truth.{by-test, same-test, not-So, So-not, and-iff, or-iff, isnt-iff, eqb-iff, ltb-iff, below-suc, equal-or, if-true, if-false}
+use Rattle.sets.proofs.Truth.{by-test, either, same-test, not-So, So-not, and-iff, or-iff, isnt-iff, eqb-iff, ltb-iff, below-suc, equal-or, if-true, if-false}
 use Rattle.sets.proofs.Items.{has-top, same-below, has-zero, has-first, has-rest, empty-of, has-∩, has-∪, has-∖, has-low, has-above, item-below, same-set, below-of-items, item-of}
 
 -- ---- the operations as statements
@@ -242,6 +242,9 @@ pub collect-iff : (n : ℕ) (f : ℕ → Bool) (i : ℕ) → So (has (collect n 
 collect-iff n f i =
     (λ t. let l = item-below n (collect n f) i (collect-lt n f) t in (l, rw (has-collect n f i l) at t), λ k. rw (has-collect n f i (k .0)) (k .1))
 
+pub collect-none : (n : ℕ) (f : ℕ → Bool) → ((i : ℕ) → i < n → f i ≡ false) → collect n f ≡ 0
+collect-none n f h = empty-of (collect n f) (λ i t. let a = collect-iff n f i .0 t in So-not (h i (a .0)) (a .1))
+
 pub collect-same : (n : ℕ) (f g : ℕ → Bool) → ((i : ℕ) → i < n → f i ≡ g i) → collect n f ≡ collect n g
 collect-same n f g h =
     same-below n (collect n f) (collect n g) (collect-lt n f) (collect-lt n g) (λ i l. has-collect n f i l ∙ h i l ∙ sym (has-collect n g i l))
@@ -275,6 +278,31 @@ collect-more n s f e =
   where
     old : (i : ℕ) → So (has (collect n f) i) → So (has (collect (n + 1) f) i)
     old i x = let a = collect-iff n f i .0 x in collect-iff (n + 1) f i .1 (omega (arith, a .0), a .1)
+
+-- the first k, and the rest from k on
+pub collect-parts : (k n : ℕ) (f : ℕ → Bool) → collect (n - k) (λ i. f (k + i)) * 2 ^ k + collect (min n k) f ≡ collect n f
+unfolding collect
+collect-parts k zero f =
+    let a : 0 - k ≡ 0 = omega arith in
+    let b : min 0 k ≡ 0 = omega arith in
+    rw (a, b) (omega (arith, zero-mul (2 ^ k)))
+collect-parts k (suc n) f =
+    either n k
+    (λ l.
+    let a : suc n - k ≡ 0 = omega arith in
+    let b : min (suc n) k ≡ suc n = omega arith in
+    rw (a, b) (omega (arith, zero-mul (2 ^ k))))
+    (λ l.
+    let a : suc n - k ≡ suc (n - k) = omega arith in
+    let b : min (suc n) k ≡ k = omega arith in
+    let d : min n k ≡ k = omega arith in
+    let e : k + (n - k) ≡ n = omega arith in
+    let p : 2 ^ (n - k) * 2 ^ k ≡ 2 ^ n = sym (pow-add 2 (n - k) k) ∙ ap (λ (x : ℕ). 2 ^ x) (add-comm (n - k) k ∙ e) in
+    let h = rw d at (collect-parts k n f) in
+    rw (a, b, e)
+    (ap (λ (x : ℕ). x + collect k f) (add-mul (bit (f n) * 2 ^ (n - k)) (collect (n - k) (λ i. f (k + i))) (2 ^ k) ∙ ap (λ (x : ℕ). x + collect (n - k) (λ i. f (k + i)) * 2 ^ k) (mul-assoc (bit (f n)) (2 ^ (n - k)) (2 ^ k) ∙ ap (λ (x : ℕ). bit (f n) * x) p))
+    ∙ add-assoc (bit (f n) * 2 ^ n) (collect (n - k) (λ i. f (k + i)) * 2 ^ k) (collect k f)
+    ∙ ap (λ (x : ℕ). bit (f n) * 2 ^ n + x) h))
 
 -- an item put in where a test holds: what an insertion below the width gives, and what leaving it out does
 pub put-in : (t : Bool) (r s i w : ℕ) → i < w → So t → r ≡ (if ltb i w then s ∪ single i else s) → r ≡ (if t then s ∪ single i else s)

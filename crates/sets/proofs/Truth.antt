@@ -75,6 +75,17 @@ unfolding if_then_else_
 if-false true a b h = absurd (true≢false h)
 if-false false a b h = refl
 
+-- the first where t holds, the second where it does not: written without a choice
+pub picked : (t a b : Bool) → (a and t or b and isnt t) ≡ (if t then a else b)
+unfolding _and_ _or_ isnt if_then_else_
+picked true true b = refl
+picked true false true = refl
+picked true false false = refl
+picked false true true = refl
+picked false true false = refl
+picked false false true = refl
+picked false false false = refl
+
 -- a test that is to hold, and stops where it does not
 pub if-passes {ℓ} : {A : Type ℓ} (t : Bool) (a b : A) → So t → (if isnt t then a else b) ≡ b
 if-passes t a b h = if-false (isnt t) a b (not-So (isnt t) (λ s. isnt-iff t .0 s h))

@@ -3,20 +3,20 @@
 use mathlib.Core.Path.{_≡_, refl, sym, _∙_, ap, ap₂}
 use mathlib.Core.Bool.{Bool}
 use mathlib.Core.List.{List, [], _∷_}
-use Prim.Native.Nat.{ℕ, zero, suc, _+_, _-_, _*_, _/_, _%_, _^_, _<_}
-use native.Mathlib.Nat.{not-suc-le-zero, add-comm, add-zero, mul-assoc, mul-suc, div-one, zero-div, pow-suc, suc-inj}
+use Prim.Native.Nat.{ℕ, zero, suc, _+_, _-_, _*_, _/_, _%_, _^_, _<_, min}
+use native.Mathlib.Nat.{not-suc-le-zero, add-comm, mul-suc, div-one, zero-div, pow-suc, suc-inj}
 use native.Mathlib.Omega.{arith}
 use lib.Dec.{eqb}
 use lib.Arith.{digits-lt}
 use lib.Pow.{pow-pos, pow-add, shr-shr, shr-lt, high, low}
 use lib.Bits.{bitAnd, bitOr, bitXor, and-lt, and-block, or-block, xor-block, and-zero-r, or-zero-r, xor-zero-r}
-use lib.ListN.{length, getD, set}
+use lib.ListN.{length, getD}
 use lib.Seq.{ext-getD}
 use Rattle.sets.specs.Truth.{_and_, isnt}
-use Rattle.sets.specs.Sets.{has, _∩_, _∪_, _∖_, single}
+use Rattle.sets.specs.Sets.{has, _∩_, _∪_, _∖_, collect}
 use Rattle.sets.specs.Words.{value, word}
 use Rattle.sets.proofs.Items.{digit, has-first, has-rest, has-low, same-below, has-∩, has-∖}
-use Rattle.sets.proofs.Order.{∖-lt}
+use Rattle.sets.proofs.Order.{∖-lt, collect-parts}
 
 -- every element is a word
 abbrev pub Words : List ℕ → Type 0
@@ -36,6 +36,14 @@ value-nil = refl
 pub value-cons : (w : ℕ) (ws : List ℕ) → value (w ∷ ws) ≡ value ws * 2 ^ 64 + w
 unfolding value
 value-cons w ws = refl
+
+pub value-one : (w : ℕ) → value (w ∷ []) ≡ w
+unfolding value
+value-one w = omega arith
+
+-- a comprehension gathered word by word: its first word, and what its other words hold
+pub value-collect : (n w : ℕ) (ws : List ℕ) (f : ℕ → Bool) → w ≡ collect (min n 64) f → value ws ≡ collect (n - 64) (λ i. f (64 + i)) → value (w ∷ ws) ≡ collect n f
+value-collect n w ws f a b = value-cons w ws ∙ ap₂ (λ (x y : ℕ). x * 2 ^ 64 + y) b a ∙ collect-parts 64 n f
 
 pub value-lt : (ws : List ℕ) → Words ws → value ws < 2 ^ (64 * length ws)
 unfolding value
@@ -175,25 +183,3 @@ unfolding _∖_ _∩_
 
 pub wordwise-∖ : Wordwise masked _∖_
 wordwise-∖ = (∖-zero 0, λ a b x y hx hy. ∖-block a b x y hx hy ∙ ap (λ (r : ℕ). (a ∖ b) * 2 ^ 64 + r) (sym (and-turned 64 x y hx hy)))
-
--- ---- a store of one word
-
--- f with the value v, done to word j alone
-pub value-set : (f g : ℕ → ℕ → ℕ) → Wordwise f g → ((x : ℕ) → g x 0 ≡ x) → ((x : ℕ) → x < 2 ^ 64 → f x 0 ≡ x)
-    → (ws : List ℕ) (j v : ℕ) → Words ws → v < 2 ^ 64 → j < length ws
-    → value (set ws j (f (getD ws j 0) v)) ≡ g (value ws) (v * 2 ^ (64 * j))
-unfolding value
-value-set f g k gz fz [] j v h hv l = absurd (not-suc-le-zero l)
-value-set f g k gz fz (w ∷ ws) zero v h hv l =
-    ap (λ (x : ℕ). x * 2 ^ 64 + f w v) (sym (gz (value ws))) ∙ sym (k .1 (value ws) 0 w v (h 0) hv)
-    ∙ ap (λ (x : ℕ). g (value ws * 2 ^ 64 + w) x) (omega arith)
-value-set f g k gz fz (w ∷ ws) (suc j) v h hv l =
-    let shifted : v * 2 ^ (64 * j) * 2 ^ 64 + 0 ≡ v * 2 ^ (64 * suc j) = add-zero (v * 2 ^ (64 * j) * 2 ^ 64) ∙ mul-assoc v (2 ^ (64 * j)) (2 ^ 64) ∙ ap (λ (x : ℕ). v * x) (sym (power-suc j)) in
-    ap₂ (λ (x y : ℕ). x * 2 ^ 64 + y) (value-set f g k gz fz ws j v (λ i. h (suc i)) hv (omega arith)) (sym (fz w (h 0)))
-    ∙ sym (k .1 (value ws) (v * 2 ^ (64 * j)) w 0 (h 0) (omega arith))
-    ∙ ap (g (value ws * 2 ^ 64 + w)) shifted
-
--- the bit of item i, put into its word
-pub single-word : (i : ℕ) → 2 ^ (i % 64) * 2 ^ (64 * (i / 64)) ≡ single i
-unfolding single
-single-word i = let e : i % 64 + 64 * (i / 64) ≡ i = omega arith in sym (pow-add 2 (i % 64) (64 * (i / 64))) ∙ ap (λ (x : ℕ). 2 ^ x) e

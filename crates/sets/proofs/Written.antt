@@ -3,29 +3,27 @@
 use mathlib.Core.Path.{_≡_, refl, sym, _∙_, ap}
 use mathlib.Core.Bool.{Bool, true, false, _&&_, _||_, not}
 use mathlib.Core.List.{List, [], _∷_}
-use mathlib.Core.Logic.{_↔_}
-use Prim.Native.Nat.{ℕ, zero, suc, _-_, _*_, _/_, _%_, _^_, _≤_, _<_, min}
-use native.Mathlib.Nat.{suc-inj, one-mul, mod-eq-of-lt}
+use Prim.Native.Nat.{ℕ, zero, suc, _+_, _-_, _*_, _/_, _%_, _^_, _≤_, _<_, min}
+use native.Mathlib.Nat.{suc-inj, zero-add, add-zero, one-mul, zero-mul, mod-eq-of-lt, mul-mod-left, not-suc-le-zero, le-of-suc-le-suc}
 use native.Mathlib.Omega.{arith}
 use borrow.Author.Needs.{needs}
-use borrow.Author.Tests.{lt-ltb, le-ltb, eq-eqb, ne-eqb}
+use borrow.Author.Tests.{lt-ltb, le-ltb, ltb-false, eq-eqb, ne-eqb}
 use mir.Syntax.{w64}
-use mir.Val.{Fits}
+use mir.Val.{Fits, boolByte}
 use lib.Dec.{eqb, ltb}
-use lib.Pow.{pow-pos, pow-lt}
+use lib.Pow.{pow-pos, pow-lt, shl-shr}
 use lib.Bits.{bitAnd, bitOr, bitXor, and-mask, or-zero-r}
 use lib.Count.{ones}
-use lib.ListN.{length, getD, set, List·getD-eq-default}
-use lib.Seq.{set-out}
+use lib.ListN.{length, getD, List·getD-eq-default}
 use Rattle.sets.specs.declared.item.Item.the-variants.{Nothing}
 use Rattle.sets.specs.Truth.{_and_, _or_, isnt, if_then_else_}
 use Rattle.sets.specs.Sets.{has, _∩_, _∪_, _∖_, single, subset, properSubset}
 use Rattle.sets.specs.Words.{value, word}
 use Rattle.sets.specs.Extremes.{lowest, highest}
-use Rattle.sets.proofs.Truth.{either, if-true, if-false}
-use Rattle.sets.proofs.Items.{has-above}
-use Rattle.sets.proofs.Order.{∪-zero, without-absent}
-use Rattle.sets.proofs.Words.{Words, Wordwise, value-lt, word-value, has-word, zip, value-zip, value-set, wordwise-∩, wordwise-∪, wordwise-∖, wordwise-xor, ∖-zero, masked, and-turned, single-word}
+use Rattle.sets.proofs.Truth.{by-test, either, if-true, if-false}
+use Rattle.sets.proofs.Items.{same-below, has-zero, has-∩, has-∪, has-∖, has-low, has-above}
+use Rattle.sets.proofs.Order.{has-single, single-lt, ∪-zero, without-absent}
+use Rattle.sets.proofs.Words.{Words, Wordwise, value-lt, word-lt, word-zero, word-value, value-words, has-shift, has-word, zip, value-zip, wordwise-∩, wordwise-∪, wordwise-∖, wordwise-xor, ∖-zero, masked, and-turned}
 use Rattle.sets.proofs.Compare.{join, join-none, test-same, xor-none, ∖-none, lessFrom, value-less, less-none, count, value-count}
 use Rattle.sets.proofs.Extremes.{lowestFrom, highestFrom, value-lowest, value-highest}
 use Rattle.sets.specs.declared.set128.Set128.{Set128}
@@ -69,9 +67,6 @@ module _ (n : ℕ) (ws : List ℕ) (a : Arr n ws) where
   pub word-past : (j : ℕ) → n ≤ j → 0 ≡ word (value ws) j
   word-past j l = sym (List·getD-eq-default ws 0 (rw (a .0) l)) ∙ word-in j
 
-  pub store-past : (j w : ℕ) → n ≤ j → ws ≡ set ws j w
-  store-past j w l = sym (set-out ws j w (rw (a .0) l))
-
   pub empty-words : eqb (join (elems 0 n ws)) 0 ≡ eqb (value ws) 0
   empty-words = rw (elems-all n ws (a .0)) (test-same (join ws) 0 (value ws) 0 (join-none ws))
 
@@ -99,20 +94,12 @@ module _ (n : ℕ) (xs ys : List ℕ) (a : Arr n xs) (b : Arr n ys) where
   pub without-words : value (zip masked (elems 0 n xs) (elems 0 n ys)) ≡ value xs ∖ value ys
   without-words = zip-words masked _∖_ wordwise-∖
 
-  -- the words of f joined: none has an item exactly where g has none
-  none-words : (f g : ℕ → ℕ → ℕ) → Wordwise f g → (c d : ℕ) → (g (value xs) (value ys) ≡ 0) ↔ (c ≡ d)
-      → eqb (join (zip f (elems 0 n xs) (elems 0 n ys))) 0 ≡ eqb c d
-  none-words f g k c d e =
-      let r = join-none (zip f (elems 0 n xs) (elems 0 n ys)) in
-      let z = zip-words f g k in
-      test-same (join (zip f (elems 0 n xs) (elems 0 n ys))) 0 c d (λ h. e .0 (sym z ∙ r .0 h), λ h. r .1 (z ∙ e .1 h))
-
-  pub subset-words : eqb (join (zip masked (elems 0 n xs) (elems 0 n ys))) 0 ≡ subset (value xs) (value ys)
-  unfolding subset
-  subset-words = none-words masked _∖_ wordwise-∖ (value xs ∩ value ys) (value xs) (∖-none (value xs) (value ys))
-
   pub equal-words : eqb (join (zip bitXor (elems 0 n xs) (elems 0 n ys))) 0 ≡ eqb (value xs) (value ys)
-  equal-words = none-words bitXor bitXor wordwise-xor (value xs) (value ys) (xor-none (value xs) (value ys))
+  equal-words =
+      let r = join-none (zip bitXor (elems 0 n xs) (elems 0 n ys)) in
+      let z = zip-words bitXor bitXor wordwise-xor in
+      let e = xor-none (value xs) (value ys) in
+      test-same (join (zip bitXor (elems 0 n xs) (elems 0 n ys))) 0 (value xs) (value ys) (λ h. e .0 (sym z ∙ r .0 h), λ h. r .1 (z ∙ e .1 h))
 
   pub less-words : lessFrom false (elems 0 n xs) (elems 0 n ys) ≡ ltb (value xs) (value ys)
   less-words =
@@ -121,42 +108,108 @@ module _ (n : ℕ) (xs ys : List ℕ) (a : Arr n xs) (b : Arr n ys) where
 
 -- ---- one item
 
--- the test of its bit
-pub test-bit : (s i : ℕ) → eqb (bitAnd (word s (i / 64) / 2 ^ (i % 64)) 1) 1 ≡ has s i
+-- the test of its bit, in a word and in a set
+pub test-item : (w b : ℕ) → eqb (bitAnd (w / 2 ^ b) 1) 1 ≡ has w b
 unfolding has
-test-bit s i = ap (λ (x : ℕ). eqb x 1) (and-mask (word s (i / 64) / 2 ^ (i % 64)) 1) ∙ has-word s i
+test-item w b = ap (λ (x : ℕ). eqb x 1) (and-mask (w / 2 ^ b) 1)
+
+pub test-bit : (s i : ℕ) → eqb (bitAnd (word s (i / 64) / 2 ^ (i % 64)) 1) 1 ≡ has s i
+test-bit s i = test-item (word s (i / 64)) (i % 64) ∙ has-word s i
 
 shifted-one : (b : ℕ) → b < 64 → 1 * 2 ^ b % 2 ^ 64 ≡ 2 ^ b
 shifted-one b h = ap (λ (x : ℕ). x % 2 ^ 64) (one-mul (2 ^ b)) ∙ mod-eq-of-lt (pow-lt h)
 
--- a store of its word with the bit changed; `set` past the end changes nothing
-module _ (n : ℕ) (ws : List ℕ) (a : Arr n ws) (i : ℕ) where
-  abbrev stored : (ℕ → ℕ → ℕ) → ℕ
-  stored f = value (set ws (i / 64) (f (word (value ws) (i / 64)) (1 * 2 ^ (i % 64) % 2 ^ 64)))
+-- its bit put into a word where a test holds
+pub bit-in : (w i : ℕ) (t : Bool) → i < 64 → bitOr w (boolByte t * 2 ^ i % 2 ^ 64) ≡ (if t then w ∪ single i else w)
+unfolding _∪_ single if_then_else_
+bit-in w i true h = ap (bitOr w) (shifted-one i h)
+bit-in w i false h = rw (zero-mul (2 ^ i)) (or-zero-r w)
 
-  stored-past : (f : ℕ → ℕ → ℕ) → n ≤ i / 64 → stored f ≡ value ws
-  stored-past f l = ap value (set-out ws (i / 64) (f (word (value ws) (i / 64)) (1 * 2 ^ (i % 64) % 2 ^ 64)) (rw (a .0) l))
+-- the items of what a word is made of: both of two, either, the first without the second, shifted down, shifted up
+pub has-and : (a b i : ℕ) → has (bitAnd a b) i ≡ (has a i and has b i)
+unfolding _∩_
+has-and a b i = has-∩ a b i
 
-  stored-in : (f g : ℕ → ℕ → ℕ) → Wordwise f g → ((x : ℕ) → g x 0 ≡ x) → ((x : ℕ) → x < 2 ^ 64 → f x 0 ≡ x)
-      → i / 64 < n → stored f ≡ g (value ws) (single i)
-  stored-in f g k gz fz l =
-      let small : i % 64 < 64 = omega arith in
-      rw (word-value ws (i / 64) (a .1), shifted-one (i % 64) small)
-      (value-set f g k gz fz ws (i / 64) (2 ^ (i % 64)) (a .1) (pow-lt small) (rw (a .0) l) ∙ ap (g (value ws)) (single-word i))
+pub has-or : (a b i : ℕ) → has (bitOr a b) i ≡ (has a i or has b i)
+unfolding _∪_
+has-or a b i = has-∪ a b i
 
-  pub insert-words : stored bitOr ≡ (if ltb i (64 * n) then value ws ∪ single i else value ws)
-  insert-words =
-      either (i / 64) n
-      (λ l.
-      stored-in bitOr _∪_ wordwise-∪ ∪-zero (λ x h. or-zero-r x) l
-      ∙ sym (if-true (ltb i (64 * n)) (value ws ∪ single i) (value ws) (lt-ltb i (64 * n) (omega arith))))
-      (λ l. stored-past bitOr l ∙ sym (if-false (ltb i (64 * n)) (value ws ∪ single i) (value ws) (le-ltb i (64 * n) (omega arith))))
+pub has-masked : (a b i : ℕ) → a < 2 ^ 64 → b < 2 ^ 64 → has (masked a b) i ≡ (has a i and isnt (has b i))
+has-masked a b i ha hb = ap (λ (x : ℕ). has x i) (and-turned 64 a b ha hb) ∙ has-∖ a b i
 
-  pub remove-words : stored masked ≡ value ws ∖ single i
-  remove-words =
-      either (i / 64) n
-      (λ l. stored-in masked _∖_ wordwise-∖ ∖-zero (λ x h. and-turned 64 x 0 h (omega arith) ∙ ∖-zero x) l)
-      (λ l. stored-past masked l ∙ sym (without-absent (value ws) i (has-above (64 * n) (value ws) i (arr-lt n ws a) (omega arith))))
+pub has-down : (a s i : ℕ) → has (a / 2 ^ s) i ≡ has a (s + i)
+has-down a s i = has-shift a s i
+
+pub has-up : (a s i : ℕ) → i < 64 → s ≤ i → has (a * 2 ^ s % 2 ^ 64) i ≡ has a (i - s)
+has-up a s i h l =
+    let e : s + (i - s) ≡ i = omega arith in
+    has-low 64 (a * 2 ^ s) i h ∙ ap (has (a * 2 ^ s)) (sym e) ∙ sym (has-shift (a * 2 ^ s) s (i - s)) ∙ ap (λ (x : ℕ). has x (i - s)) (shl-shr a s)
+
+pub none-up : (a s i : ℕ) → i < 64 → i < s → has (a * 2 ^ s % 2 ^ 64) i ≡ false
+none-up a s i h l = has-low 64 (a * 2 ^ s) i h ∙ sym (has-low s (a * 2 ^ s) i l) ∙ ap (λ (x : ℕ). has x i) (mul-mod-left a (2 ^ s)) ∙ has-zero i
+
+-- ---- one item as a set
+
+has-in-word : (s j b : ℕ) → b < 64 → has (word s j) b ≡ has s (64 * j + b)
+has-in-word s j b l =
+    let p : (64 * j + b) / 64 ≡ j = omega arith in
+    let q : (64 * j + b) % 64 ≡ b = omega arith in
+    rw (p, q) at (has-word s (64 * j + b))
+
+-- its bit in the word where it stands, and in any other
+pub bit-there : (i j : ℕ) → i / 64 ≡ j → 1 * 2 ^ (i % 64) % 2 ^ 64 ≡ word (single i) j
+unfolding single
+bit-there i j e =
+    let small : i % 64 < 64 = omega arith in
+    shifted-one (i % 64) small
+    ∙ same-below 64 (2 ^ (i % 64)) (word (single i) j) (pow-lt small) (word-lt (single i) j)
+    (λ b l.
+    has-single (i % 64) b ∙ test-same (i % 64) b i (64 * j + b) (λ (h : i % 64 ≡ b). omega arith, λ (h : i ≡ 64 * j + b). omega arith)
+    ∙ sym (has-single i (64 * j + b)) ∙ sym (has-in-word (single i) j b l))
+
+pub bit-elsewhere : (i j : ℕ) → (i / 64 ≡ j → ⊥) → 0 ≡ word (single i) j
+bit-elsewhere i j d =
+    same-below 64 0 (word (single i) j) (omega arith) (word-lt (single i) j)
+    (λ b l.
+    has-zero b ∙ sym (ne-eqb i (64 * j + b) (λ (e : i ≡ 64 * j + b). d (omega arith)))
+    ∙ sym (has-single i (64 * j + b)) ∙ sym (has-in-word (single i) j b l))
+
+-- its n words from word j on, written out
+abbrev pub spread : ℕ → ℕ → ℕ → List ℕ
+spread j zero i = []
+spread j (suc n) i = word (single i) j ∷ spread (suc j) n i
+
+length-spread : (j n i : ℕ) → length (spread j n i) ≡ n
+length-spread j zero i = refl
+length-spread j (suc n) i = ap suc (length-spread (suc j) n i)
+
+getD-spread : (j n i q : ℕ) → q < n → getD (spread j n i) q 0 ≡ word (single i) (j + q)
+getD-spread j zero i q l = absurd (not-suc-le-zero l)
+getD-spread j (suc n) i zero l = ap (word (single i)) (sym (add-zero j))
+getD-spread j (suc n) i (suc q) l = getD-spread (suc j) n i q (le-of-suc-le-suc l) ∙ ap (word (single i)) (let e : suc j + q ≡ j + suc q = omega arith in e)
+
+pub only-words : (n i : ℕ) → value (spread 0 n i) ≡ (if ltb i (64 * n) then single i else 0)
+only-words n i =
+    let e = length-spread 0 n i in
+    either i (64 * n)
+    (λ l.
+    value-words (spread 0 n i) (single i) (rw e (single-lt (64 * n) i l)) (λ q b. getD-spread 0 n i q (rw e at b) ∙ ap (word (single i)) (zero-add q))
+    ∙ sym (if-true (ltb i (64 * n)) (single i) 0 (lt-ltb i (64 * n) l)))
+    (λ l.
+    value-words (spread 0 n i) 0 (pow-pos (64 * length (spread 0 n i)))
+    (λ q b. getD-spread 0 n i q (rw e at b) ∙ ap (word (single i)) (zero-add q) ∙ sym (bit-elsewhere i q (λ (h : i / 64 ≡ q). let b' : q < n = rw e at b in omega arith)) ∙ sym (word-zero q))
+    ∙ sym (if-false (ltb i (64 * n)) (single i) 0 (le-ltb i (64 * n) l)))
+
+-- put in and taken out
+pub with-only : (s i w : ℕ) → s ∪ (if ltb i w then single i else 0) ≡ (if ltb i w then s ∪ single i else s)
+with-only s i w =
+    by-test (ltb i w) (λ h. rw (if-true (ltb i w) (single i) 0 h, if-true (ltb i w) (s ∪ single i) s h) refl)
+    (λ h. rw (if-false (ltb i w) (single i) 0 h, if-false (ltb i w) (s ∪ single i) s h) (∪-zero s))
+
+pub without-only : (s i w : ℕ) → s < 2 ^ w → s ∖ (if ltb i w then single i else 0) ≡ s ∖ single i
+without-only s i w b =
+    by-test (ltb i w) (λ h. rw (if-true (ltb i w) (single i) 0 h) refl)
+    (λ h. rw (if-false (ltb i w) (single i) 0 h) (∖-zero s ∙ sym (without-absent s i (has-above w s i b (ltb-false i w h)))))
 
 -- ---- one mask: of the items from `at` on, those below n
 
@@ -198,6 +251,11 @@ but-not true true = refl
 but-not true false = refl
 but-not false true = refl
 but-not false false = refl
+
+-- nothing is left of a subset
+pub subset-test : (t : Bool) (a b d : ℕ) → t ≡ eqb d 0 → d ≡ a ∖ b → t ≡ subset a b
+unfolding subset
+subset-test t a b d e f = e ∙ ap (λ (x : ℕ). eqb x 0) f ∙ test-same (a ∖ b) 0 (a ∩ b) a (∖-none a b)
 
 pub proper-test : (s t : Bool) (a b : ℕ) → s ≡ subset a b → t ≡ eqb a b → (s && not t) ≡ properSubset a b
 unfolding properSubset

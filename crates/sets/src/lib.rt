@@ -7,3 +7,4 @@ mod word;
 pub use item::Item;
 pub use set128::Set128;
 pub use set256::Set256;
+pub use word::with_bit;

@@ -1,13 +1,13 @@
 ghost use mathlib.Core.Path.{_≡_};
 ghost use lib.Count.{ones};
 ghost use lib.Dec.{eqb, ltb};
-ghost use lib.ListN.{set};
 ghost use Rattle.sets.specs.Extremes.{highest, lowest};
 ghost use Rattle.sets.specs.Held.{set256};
 ghost use Rattle.sets.specs.Sets.{has, _∩_, _∪_, _∖_, single, subset, properSubset, collect};
 ghost use Rattle.sets.specs.Truth.{if_then_else_};
 ghost use Rattle.sets.specs.Words.{value, word};
 use crate::item::Item;
+use crate::word::bit_at;
 use crate::word::count_of;
 use crate::word::highest_or;
 use crate::word::less_or;
@@ -33,6 +33,15 @@ impl Set256 {
         Self { words: ws }
     }
 
+    // The one item i; past the width there is none.
+    pub fn only(i: usize) -> Self
+        ensures { λ r. ⌜ set256 r ≡ (if ltb i 256 then single i else 0) ⌝ }
+    {
+        Self {
+            words: [bit_at(i, 0), bit_at(i, 1), bit_at(i, 2), bit_at(i, 3)],
+        }
+    }
+
     // All items below n.
     pub fn below(n: usize) -> Self
         ensures { λ r. ⌜ set256 r ≡ collect 256 (λ i. ltb i n) ⌝ }
@@ -55,18 +64,6 @@ impl Set256 {
         if j < 4 { a[j] } else { 0 }
     }
 
-    // The same with w for word j; past the last nothing changes.
-    fn with_word(self, j: usize, w: u64) -> Self
-        ensures { λ r. ⌜ r .words ≡ set (self .words) j w ⌝ }
-    {
-        if 4 <= j {
-            return self;
-        }
-        let mut a = self.words;
-        a[j] = w;
-        Self { words: a }
-    }
-
     pub fn contains(self, i: usize) -> bool
         ensures { λ r. ⌜ r ≡ has (set256 self) i ⌝ }
     {
@@ -78,15 +75,13 @@ impl Set256 {
     pub fn insert(self, i: usize) -> Self
         ensures { λ r. ⌜ set256 r ≡ (if ltb i 256 then set256 self ∪ single i else set256 self) ⌝ }
     {
-        let p = place_of(i);
-        self.with_word(p.word, self.word(p.word) | (1 << p.bit))
+        self.union(Set256::only(i))
     }
 
     pub fn remove(self, i: usize) -> Self
         ensures { λ r. ⌜ set256 r ≡ set256 self ∖ single i ⌝ }
     {
-        let p = place_of(i);
-        self.with_word(p.word, self.word(p.word) & !(1 << p.bit))
+        self.difference(Set256::only(i))
     }
 
     pub fn intersection(self, other: Self) -> Self
@@ -129,9 +124,7 @@ impl Set256 {
     pub fn is_subset(self, other: Self) -> bool
         ensures { λ r. ⌜ r ≡ subset (set256 self) (set256 other) ⌝ }
     {
-        let a = self.words;
-        let b = other.words;
-        (a[0] & !b[0]) | (a[1] & !b[1]) | (a[2] & !b[2]) | (a[3] & !b[3]) == 0
+        self.difference(other).is_empty()
     }
 
     pub fn equals(self, other: Self) -> bool

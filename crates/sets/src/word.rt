@@ -1,9 +1,11 @@
 // What a set of any width does with one of its words.
 ghost use mathlib.Core.Path.{_≡_};
-ghost use Prim.Native.Nat.{_+_, _-_, _/_, _%_, _^_, _≤_, min};
+ghost use Prim.Native.Nat.{_+_, _-_, _/_, _%_, _^_, _≤_, _<_, min};
 ghost use lib.Count.{ones, trailingZeros, leadingZeros};
 ghost use lib.Dec.{eqb, ltb};
+ghost use Rattle.sets.specs.Sets.{_∪_, single};
 ghost use Rattle.sets.specs.Truth.{if_then_else_};
+ghost use Rattle.sets.specs.Words.{word};
 use crate::item::Item;
 
 // The word that holds an item, and the item's bit in it.
@@ -20,6 +22,23 @@ pub fn place_of(i: usize) -> Place
         word: i / 64,
         bit: i % 64,
     }
+}
+
+// Item i as it stands in word j: its bit, or nothing where it is in another word. What picks a word by a computed place would put the whole set
+// into memory; this keeps it in registers.
+pub fn bit_at(i: usize, j: usize) -> u64
+    ensures { λ r. ⌜ r ≡ word (single i) j ⌝ }
+{
+    let p = place_of(i);
+    if p.word == j { 1 << p.bit } else { 0 }
+}
+
+// The word with item i where `held` says so, without a branch.
+pub fn with_bit(w: u64, i: usize, held: bool) -> u64
+    requires { ⌜ i < 64 ⌝ }
+    ensures { λ r. ⌜ r ≡ (if held then w ∪ single i else w) ⌝ }
+{
+    w | ((held as u64) << i)
 }
 
 pub fn count_of(w: u64) -> usize

@@ -1,4 +1,7 @@
 // A slice of words as a table of sets: reading and writing a set at a place, copying and comparing a region.
+mod layout;
+mod limits;
+
 ghost use mathlib.Core.Path.{_≡_};
 ghost use Prim.Native.Nat.{_+_, _≤_};
 ghost use lib.Dec.{eqb};
@@ -7,6 +10,14 @@ ghost use Rattle.sets.specs.Held.{set128, set256};
 ghost use Rattle.sets.specs.Truth.{all};
 ghost use Rattle.model.specs.Lists.{setAt};
 ghost use Rattle.tables.specs.Stores.{putAt, wordsOf};
+pub use layout::CREW;
+pub use layout::JUNIORS;
+pub use layout::LENGTH;
+pub use layout::MEMBERS;
+pub use layout::PERMISSIONS;
+pub use layout::SETS;
+pub use layout::STANDING;
+pub use limits::limits_kept;
 use sets::Set128;
 use sets::Set256;
 

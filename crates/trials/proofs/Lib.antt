@@ -1,4 +1,9 @@
+pub mod Striking
 pub mod Sums
 pub mod Correcting
+pub mod Losing
+pub mod Handing
+pub mod Coming
 pub mod Moving
+pub mod Leaving
 pub mod Runs

@@ -1,102 +1,37 @@
 -- A record before and after a change of its standing set: what it is ready for, and what its counts are.
 -- Assumes nothing.
-use mathlib.Core.Path.{_≡_, refl, sym, _∙_, ap, subst}
-use mathlib.Core.Bool.{Bool, true, false, So}
-use mathlib.Core.Logic.{_≢_, _⊎_, ⊎-elim}
+use mathlib.Core.Path.{_≡_, sym, _∙_, ap, ap₂, subst}
+use mathlib.Core.Bool.{false}
 use mathlib.Core.List.{List}
 use Prim.Native.Nat.{ℕ, _+_, _*_, _^_, _≤_, _<_}
-use native.Mathlib.Omega.{arith}
+use native.Mathlib.Nat.{lt-of-lt-of-le}
+use lib.Count.{ones}
 use lib.Dec.{ltb}
-use lib.ListN.{getD}
+use lib.ListN.{getD, take, drop}
 use Rattle.sets.specs.Truth.{if_then_else_}
-use Rattle.sets.specs.Sets.{has, _∪_, _∖_, single, collect}
-use Rattle.sets.proofs.Truth.{ltb-iff, if-true}
-use Rattle.sets.proofs.Items.{same-set}
-use Rattle.sets.proofs.Order.{∪-iff, ∖-iff, single-iff, single-lt, ∪-lt, ∖-lt, collect-iff, collect-lt, has-with, with-without}
-use Rattle.model.specs.Hierarchy.{Roles, candidateCount, immediatelySenior, immediateJuniors}
+use Rattle.sets.specs.Sets.{has, _∩_, _∪_, _∖_, single, collect}
+use Rattle.sets.proofs.Order.{single-lt, ∪-lt, ∖-lt, collect-lt, has-with, with-without}
+use Rattle.model.specs.Lists.{setAt}
+use Rattle.model.specs.Hierarchy.{Roles, candidateCount, permissionSet, authorisedUsers, immediateJuniors, directPermissions, directMembers}
+use Rattle.model.specs.Indexes.{lower}
 use Rattle.model.specs.Quality as model
-use Rattle.model.specs.Altered.{concerned}
-use Rattle.model.specs.Record.{recordLength, built, stateOf}
+use Rattle.model.specs.Record.{setsStart, permissionsStart, membersStart, juniorsStart, built, stateOf}
 use Rattle.model.specs.State.{State, rolesOf, standingNow}
-use Rattle.model.proofs.Reading.{Ordered, immediate-iff, junior-iff}
-use Rattle.model.proofs.Building.{stands-below, senior-stands}
-use Rattle.model.proofs.Changes.{restored-ordered, juniors-same, permissions-same, members-same}
-use Rattle.model.proofs.Altered.{concerned-iff}
+use Rattle.model.proofs.Changes.{restored-ordered}
 use Rattle.model.proofs.Record.{Limits, state-back, immediateJuniors-lt}
-use Rattle.model.proofs.Steps.{limits-ordered, limits-now, roles-now, standing-now}
+use Rattle.model.proofs.Steps.{limits-ordered, limits-now}
+use Rattle.tables.specs.Tables.{Holds}
+use Rattle.hierarchy.specs.Tables.{Numbered, Narrow}
 use Rattle.building.specs.Tables.{Indexed}
-use Rattle.editing.proofs.Changing.{count, few, indexed-now}
+use Rattle.building.proofs.Sources.{numbered, narrow}
+use Rattle.editing.proofs.Changing.{count, few, indexed-now, juniors-read, put-standing, put-seniors, put-juniors}
+use Rattle.editing.proofs.Removing.{members-read, permissions-read, sets-read}
 use Rattle.reading.specs.declared.quality.Counts.{Counts}
 use Rattle.reading.specs.Reading.{countsOf, Few}
-use Rattle.trials.specs.Trying.{countedAt, Ready, Exact, Within}
-use Rattle.trials.proofs.Correcting.{OnlyAt, partOf, part-read, moved, part-within, exact-few}
-
--- ---- the rows that differ
-
--- s has k and its neighbours among the roles of R
-pub record Around (ρ : Roles) (R k s : ℕ) : Type 0 where
-  pub below : s < 2 ^ candidateCount ρ
-  pub self : So (has s k)
-  pub seniors : (i : ℕ) → So (immediatelySenior ρ R i k) → So (has s i)
-  pub juniors : (i : ℕ) → So (immediatelySenior ρ R k i) → So (has s i)
-
-around-concerned : (ρ : Roles) (R k s : ℕ) → Ordered ρ R → k < candidateCount ρ → s ≡ collect (candidateCount ρ) (λ i. concerned ρ R k i) → Around ρ R k s
-around-concerned ρ R k s o lk e =
-    let c = candidateCount ρ in
-    let test : ℕ → Bool = λ i. concerned ρ R k i in
-    record {
-      below = rw e (collect-lt c test);
-      self = rw e (collect-iff c test k .1 (lk, concerned-iff ρ R k k .1 (_⊎_.inl refl)));
-      seniors = λ i h. rw e (collect-iff c test i .1 (stands-below ρ R o i (senior-stands ρ R o i k (immediate-iff ρ R i k .0 h .0) .0), concerned-iff ρ R k i .1 (_⊎_.inr (_⊎_.inl h))));
-      juniors = λ i h. rw e (collect-iff c test i .1 (stands-below ρ R o i (senior-stands ρ R o k i (immediate-iff ρ R k i .0 h .0) .1), concerned-iff ρ R k i .1 (_⊎_.inr (_⊎_.inr h))));
-    }
-
-around-found : (ρ : Roles) (R k s t u r : ℕ) → Ordered ρ R → k < candidateCount ρ → k < 128 → s ≡ collect (candidateCount ρ) (λ i. has (immediateJuniors ρ R i) k)
-    → t ≡ immediateJuniors ρ R k → u ≡ s ∪ t → r ≡ (if ltb k 128 then u ∪ single k else u) → Around ρ R k r
-around-found ρ R k s t u r o lk small es et eu er =
-    let c = candidateCount ρ in
-    let upper : ℕ → Bool = λ i. has (immediateJuniors ρ R i) k in
-    let all : r ≡ u ∪ single k = er ∙ if-true (ltb k 128) (u ∪ single k) u (ltb-iff k 128 .1 small) in
-    let u-below : u < 2 ^ c = rw eu (∪-lt c s t (rw es (collect-lt c upper)) (rw et (immediateJuniors-lt ρ R k))) in
-    record {
-      below = rw all (∪-lt c u (single k) u-below (single-lt c k lk));
-      self = rw all (has-with u k);
-      seniors = λ i h.
-          rw all
-          (∪-iff u (single k) i .1
-          (_⊎_.inl
-          (rw eu (∪-iff s t i .1
-          (_⊎_.inl (rw es (collect-iff c upper i .1 (stands-below ρ R o i (senior-stands ρ R o i k (immediate-iff ρ R i k .0 h .0) .0), junior-iff ρ R i k .1 (lk, h)))))))));
-      juniors = λ i h.
-          rw all
-          (∪-iff u (single k) i .1
-          (_⊎_.inl
-          (rw eu (∪-iff s t i .1
-          (_⊎_.inr (rw et (junior-iff ρ R k i .1 (stands-below ρ R o i (senior-stands ρ R o k i (immediate-iff ρ R k i .0 h .0) .1), h))))))));
-    }
-
-only-out : (ρ : Roles) (R k s : ℕ) → Ordered ρ R → Around ρ R k s → OnlyAt ρ R (R ∖ single k) s
-only-out ρ R k s o a =
-    let out : (i : ℕ) → (So (has s i) → ⊥) → i ≢ k = λ i d e. d (subst (λ (x : ℕ). So (has s x)) (sym e) (a .self)) in
-    record {
-      below = a .below;
-      standing = same-set (R ∖ s) ((R ∖ single k) ∖ s)
-          (λ i h. let x = ∖-iff R s i .0 h in ∖-iff (R ∖ single k) s i .1 (∖-iff R (single k) i .1 (x .0, λ y. out i (x .1) (sym (single-iff k i .0 y))), x .1))
-          (λ i h. let x = ∖-iff (R ∖ single k) s i .0 h in ∖-iff R s i .1 (∖-iff R (single k) i .0 (x .0) .0, x .1));
-      members = λ i d. sym (members-same ρ R o k i (out i d) (λ h. d (a .juniors i h)));
-      permissions = λ i d. sym (permissions-same ρ R o k i (out i d) (λ h. d (a .seniors i h)));
-      juniors = λ i d. sym (juniors-same ρ R o k i (out i d) (λ h. d (a .seniors i h)));
-    }
-
-only-flip : (ρ : Roles) (R S s : ℕ) → OnlyAt ρ R S s → OnlyAt ρ S R s
-only-flip ρ R S s a =
-    record {
-      below = a .below;
-      standing = sym (a .standing);
-      members = λ i d. sym (a .members i d);
-      permissions = λ i d. sym (a .permissions i d);
-      juniors = λ i d. sym (a .juniors i d);
-    }
+use Rattle.trials.specs.Trying.{over, lostAt, gainedBy, Ready, Exact, Within}
+use Rattle.trials.proofs.Sums.{over-same}
+use Rattle.trials.proofs.Coming.{takenFrom, came, came-within}
+use Rattle.trials.proofs.Correcting.{exact-few}
 
 -- ---- the record after a change
 
@@ -117,30 +52,6 @@ module _ (ws low users after : List ℕ) (ready : Ready ws low users) (S : ℕ) 
         indexed = subst (λ (st : State). Indexed st low (ready .roles) users) (sym now-state) (indexed-now (stateOf ws) S low (ready .roles) users (ready .indexed));
       }
 
-  -- the counts before it, corrected at the rows that differ
-  pub now-exact : (s : ℕ) (q b a r : Counts) → OnlyAt (rolesOf (stateOf ws)) (stateOf ws .standing) S s → Exact ws q
-      → ((n : ℕ) → n ≤ 128 → s < 2 ^ n → countsOf b ≡ countedAt n ws s) → ((n : ℕ) → n ≤ 128 → s < 2 ^ n → countsOf a ≡ countedAt n after s)
-      → (r .roles + b .roles ≡ q .roles + a .roles) × (r .members + b .members ≡ q .members + a .members) × (r .permissions + b .permissions ≡ q .permissions + a .permissions) × (r .links + b .links ≡ q .links + a .links)
-      → Exact after r
-  now-exact s q b a r only eq eb ea h =
-      let st = stateOf ws in
-      let ρ = rolesOf st in
-      let most = ready .limits .candidates-most in
-      let part : countsOf a ≡ partOf ρ S s =
-      ea (candidateCount ρ) most (only .below)
-      ∙ rw (roles-now st S, standing-now st S) at (part-read (standingNow st S) now-limits after e s) in
-      rw (now-state, roles-now st S, standing-now st S)
-      (moved ρ (st .standing) S s only q b a r eq (eb (candidateCount ρ) most (only .below) ∙ part-read st (ready .limits) ws (ready .afresh) s) part h)
-
--- no count of a part is above the count, and the counts are few
-pub now-within : (ws low users : List ℕ) (s : ℕ) (q b : Counts) → Ready ws low users → s < 2 ^ candidateCount (rolesOf (stateOf ws)) → Exact ws q
-    → ((n : ℕ) → n ≤ 128 → s < 2 ^ n → countsOf b ≡ countedAt n ws s) → Few q × Within b q
-now-within ws low users s q b ready below eq eb =
-    let st = stateOf ws in (
-      exact-few st (ready .limits) q eq,
-      part-within (rolesOf st) (st .standing) s q b eq (eb (candidateCount (rolesOf st)) (ready .limits .candidates-most) below ∙ part-read st (ready .limits) ws (ready .afresh) s),
-    )
-
 -- word 2 is small enough to count by
 pub ready-few : (ws low users : List ℕ) → Ready ws low users → getD ws 2 0 ≤ 128
 ready-few ws low users ready = few (stateOf ws) (ready .limits) ws (ready .afresh)
@@ -151,28 +62,91 @@ module _ (ws low users : List ℕ) (ready : Ready ws low users) (k : ℕ) where
   pub roles-count : candidateCount (rolesOf (stateOf ws)) ≡ getD ws 2 0
   roles-count = count (stateOf ws) (ready .limits) ws (ready .afresh)
 
-  pub strike-around : So (has (stateOf ws .standing) k) → (s : ℕ)
-      → ((st : State) → Limits st → candidateCount (rolesOf st) ≡ getD ws 2 0 → ws ≡ built st → k < candidateCount (rolesOf st) → s ≡ collect (candidateCount (rolesOf st)) (λ i. concerned (rolesOf st) (st .standing) k i))
-      → OnlyAt (rolesOf (stateOf ws)) (stateOf ws .standing) (stateOf ws .standing ∖ single k) s
-  strike-around stands s es =
-      let st = stateOf ws in
-      let o = limits-ordered st (ready .limits) in
-      let lk = stands-below (rolesOf st) (st .standing) o k stands in
-      only-out (rolesOf st) (st .standing) k s o (around-concerned (rolesOf st) (st .standing) k s o lk (es st (ready .limits) roles-count (ready .afresh) lk))
-
-  pub restore-around : k < candidateCount (rolesOf (stateOf ws)) → has (stateOf ws .standing) k ≡ false → k < 128 → (s t u r : ℕ)
-      → s ≡ collect (candidateCount (rolesOf (stateOf ws))) (λ i. has (immediateJuniors (rolesOf (stateOf ws)) (stateOf ws .standing ∪ single k) i) k)
-      → t ≡ immediateJuniors (rolesOf (stateOf ws)) (stateOf ws .standing ∪ single k) k → u ≡ s ∪ t → r ≡ (if ltb k 128 then u ∪ single k else u)
-      → OnlyAt (rolesOf (stateOf ws)) (stateOf ws .standing) (stateOf ws .standing ∪ single k) r
-  restore-around lk absent small s t u r es et eu er =
-      let ρ = rolesOf (stateOf ws) in
-      let Q = stateOf ws .standing in
-      let o = restored-ordered ρ Q k lk (limits-ordered (stateOf ws) (ready .limits)) in
-      let flip = only-flip ρ (Q ∪ single k) ((Q ∪ single k) ∖ single k) r (only-out ρ (Q ∪ single k) k r o (around-found ρ (Q ∪ single k) k s t u r o lk small es et eu er)) in
-      subst (λ (x : ℕ). OnlyAt ρ x (Q ∪ single k) r) (with-without Q k absent) flip
-
   pub strike-below : stateOf ws .standing ∖ single k < 2 ^ candidateCount (rolesOf (stateOf ws))
   strike-below = ∖-lt (candidateCount (rolesOf (stateOf ws))) (stateOf ws .standing) (single k) (ready .limits .standing-below)
 
   pub restore-below : k < candidateCount (rolesOf (stateOf ws)) → stateOf ws .standing ∪ single k < 2 ^ candidateCount (rolesOf (stateOf ws))
   restore-below lk = let c = candidateCount (rolesOf (stateOf ws)) in ∪-lt c (stateOf ws .standing) (single k) (ready .limits .standing-below) (single-lt c k lk)
+
+-- ---- a restoration that is not written
+
+module _ (ws low users : List ℕ) (ready : Ready ws low users) (k : ℕ) (lk : k < candidateCount (rolesOf (stateOf ws)))
+    (absent : has (stateOf ws .standing) k ≡ false) where
+  abbrev ρ : Roles
+  ρ = rolesOf (stateOf ws)
+
+  abbrev Q : ℕ
+  Q = stateOf ws .standing
+
+  abbrev S : ℕ
+  S = stateOf ws .standing ∪ single k
+
+  back : (stateOf ws .standing ∪ single k) ∖ single k ≡ stateOf ws .standing
+  back = with-without Q k absent
+
+  pub tried-below : stateOf ws .standing ∪ single k < 2 ^ candidateCount (rolesOf (stateOf ws))
+  tried-below = restore-below ws low users ready k lk
+
+  -- what the words lose is what the rows lose
+  taken-read : (s t : ℕ) → s ≡ collect (candidateCount ρ) (λ i. has (immediateJuniors ρ S i) k) → t ≡ immediateJuniors ρ S k
+      → lostAt (candidateCount ρ) ws users k s t ≡ takenFrom ρ S k
+  unfolding lostAt takenFrom
+  taken-read s t es et =
+      let c = candidateCount ρ in
+      let st = stateOf ws in
+      let lim = ready .limits in
+      let small : (i : ℕ) → i < c → i < 128 = λ i l. lt-of-lt-of-le l (lim .candidates-most) in
+      let own = sets-read st lim ws (ready .afresh) k lk in
+      let held = ready .indexed .role-users k lk in
+      let members = ap (λ (x : ℕ). over c x (λ j. ones (setAt 2 ws (membersStart + 2 * j) ∩ setAt 2 users (2 * k)))) et
+      ∙ over-same c (immediateJuniors ρ S k) (λ j. ones (setAt 2 ws (membersStart + 2 * j) ∩ setAt 2 users (2 * k))) (λ j. ones (directMembers ρ (S ∖ single k) j ∩ authorisedUsers ρ k))
+      (λ j l. ap₂ (λ (x y : ℕ). ones (x ∩ y)) (members-read st lim ws (ready .afresh) j (small j l) ∙ ap (λ (x : ℕ). directMembers ρ x j) (sym back)) held) in
+      let permissions = ap (λ (x : ℕ). over c x (λ i. ones (setAt 4 ws (permissionsStart + 4 * i) ∩ setAt 4 (take 512 (drop setsStart ws)) (4 * k)))) es
+      ∙ over-same c (collect c (λ i. has (immediateJuniors ρ S i) k)) (λ i. ones (setAt 4 ws (permissionsStart + 4 * i) ∩ setAt 4 (take 512 (drop setsStart ws)) (4 * k))) (λ i. ones (directPermissions ρ (S ∖ single k) i ∩ permissionSet ρ k))
+      (λ i l. ap₂ (λ (x y : ℕ). ones (x ∩ y)) (permissions-read st lim ws (ready .afresh) i (small i l) ∙ ap (λ (x : ℕ). directPermissions ρ x i) (sym back)) own) in
+      let links = ap₂ (λ (x y : ℕ). over c x (λ i. ones (setAt 2 ws (juniorsStart + 2 * i) ∩ y))) es et
+      ∙ over-same c (collect c (λ i. has (immediateJuniors ρ S i) k)) (λ i. ones (setAt 2 ws (juniorsStart + 2 * i) ∩ immediateJuniors ρ S k)) (λ i. ones (immediateJuniors ρ (S ∖ single k) i ∩ immediateJuniors ρ S k))
+      (λ i l. ap (λ (x : ℕ). ones (x ∩ immediateJuniors ρ S k)) (juniors-read st lim ws (ready .afresh) i (small i l) ∙ ap (λ (x : ℕ). immediateJuniors ρ x i) (sym back))) in
+      λ i. record { roles = 0; members = members i; permissions = permissions i; links = links i }
+
+  module _ (s t : ℕ) (es : s ≡ collect (candidateCount (rolesOf (stateOf ws))) (λ i. has (immediateJuniors (rolesOf (stateOf ws)) (stateOf ws .standing ∪ single k) i) k))
+      (et : t ≡ immediateJuniors (rolesOf (stateOf ws)) (stateOf ws .standing ∪ single k) k) (q a : Counts) (eq : Exact ws q)
+      (ea : (n : ℕ) → s < 2 ^ n → t < 2 ^ n → countsOf a ≡ lostAt n ws users k s t) where
+    taken : countsOf a ≡ takenFrom ρ S k
+    taken = ea (candidateCount ρ) (rw es (collect-lt (candidateCount ρ) (λ i. has (immediateJuniors ρ S i) k))) (rw et (immediateJuniors-lt ρ S k)) ∙ taken-read s t es et
+
+    without : countsOf q ≡ model.counts ρ (S ∖ single k)
+    without = eq ∙ ap (model.counts ρ) (sym back)
+
+    pub tried-within : Few q × Within a q
+    tried-within = (exact-few (stateOf ws) (ready .limits) q eq, came-within ρ S k q a without taken)
+
+    pub tried-exact : (b r : Counts) → countsOf b ≡ gainedBy (rolesOf (stateOf ws)) (stateOf ws .standing ∪ single k) k
+        → (r .roles + a .roles ≡ q .roles + b .roles) × (r .members + a .members ≡ q .members + b .members) × (r .permissions + a .permissions ≡ q .permissions + b .permissions) × (r .links + a .links ≡ q .links + b .links)
+        → countsOf r ≡ model.counts (rolesOf (stateOf ws)) (stateOf ws .standing ∪ single k)
+    tried-exact b r eb h = came ρ S k q a without taken (restored-ordered ρ Q k lk (limits-ordered (stateOf ws) (ready .limits))) (has-with Q k) b r eb h
+
+  -- the role's neighbours and what it brings, found for the standing set with it
+  module _ (small : k < 128) (r R : ℕ) (er : r ≡ setAt 2 ws 4) (eR : R ≡ (if ltb k 128 then r ∪ single k else r)) where
+    same : R ≡ stateOf ws .standing ∪ single k
+    same = put-standing (stateOf ws) (ready .limits) ws (ready .afresh) k small r R er eR
+
+    pub tried-seniors : (s : ℕ)
+        → ((ρ : Roles) → Numbered ρ → Holds 2 (candidateCount ρ) (lower ρ) low → R < 2 ^ candidateCount ρ → s ≡ collect (candidateCount ρ) (λ i. has (immediateJuniors ρ R i) k))
+        → s ≡ collect (candidateCount (rolesOf (stateOf ws))) (λ i. has (immediateJuniors (rolesOf (stateOf ws)) (stateOf ws .standing ∪ single k) i) k)
+    tried-seniors s h = put-seniors (stateOf ws) (ready .limits) ws low (ready .afresh) (ready .indexed .low-ones) k small r R er eR lk s h
+
+    pub tried-juniors : (t : ℕ)
+        → ((ρ : Roles) → Numbered ρ → Holds 2 (candidateCount ρ) (lower ρ) low → R < 2 ^ candidateCount ρ → t ≡ immediateJuniors ρ R k)
+        → t ≡ immediateJuniors (rolesOf (stateOf ws)) (stateOf ws .standing ∪ single k) k
+    tried-juniors t h = put-juniors (stateOf ws) (ready .limits) ws low (ready .afresh) (ready .indexed .low-ones) k small r R er eR lk t h
+
+    pub tried-gained : (s t : ℕ) → s ≡ collect (candidateCount (rolesOf (stateOf ws))) (λ i. has (immediateJuniors (rolesOf (stateOf ws)) (stateOf ws .standing ∪ single k) i) k)
+        → t ≡ immediateJuniors (rolesOf (stateOf ws)) (stateOf ws .standing ∪ single k) k → (b : Counts)
+        → ((ρ : Roles) → Numbered ρ → Narrow ρ → Holds 4 (candidateCount ρ) (permissionSet ρ) (take 512 (drop setsStart ws)) → Holds 2 (candidateCount ρ) (authorisedUsers ρ) users
+        → R < 2 ^ candidateCount ρ → t ≡ immediateJuniors ρ R k → s ≡ collect (candidateCount ρ) (λ i. has (immediateJuniors ρ R i) k) → countsOf b ≡ gainedBy ρ R k)
+        → countsOf b ≡ gainedBy (rolesOf (stateOf ws)) (stateOf ws .standing ∪ single k) k
+    tried-gained s t es et b h =
+        rw same at
+        (h (rolesOf (stateOf ws)) (numbered (stateOf ws) (ready .limits)) (narrow (stateOf ws) (ready .limits)) (sets-read (stateOf ws) (ready .limits) ws (ready .afresh))
+        (ready .indexed .role-users) (rw same tried-below) (rw same et) (rw same es))

@@ -1,20 +1,18 @@
--- Trials: the quality that one finds, and the record as it was where one is taken back.
+-- Trials: the quality that one finds, and a change that is weighed before it is written.
 -- Assumes nothing.
-use mathlib.Core.Path.{_≡_, refl, sym, _∙_, ap, subst}
-use mathlib.Core.Bool.{Bool, true, false, So}
+use mathlib.Core.Path.{_≡_, refl, sym, _∙_, ap}
+use mathlib.Core.Bool.{Bool, So}
 use mathlib.Core.List.{List}
-use Prim.Native.Nat.{ℕ, suc, _+_, _^_, _≤_, _<_}
+use Prim.Native.Nat.{ℕ, _^_, _<_}
 use native.Mathlib.Nat.{lt-of-lt-of-le}
-use lib.ListN.{length, getD}
+use lib.ListN.{getD}
 use Rattle.sets.specs.Sets.{has, _∪_, _∖_, single}
-use Rattle.sets.proofs.Truth.{not-So}
-use Rattle.sets.proofs.Order.{with-without, without-with, has-with, ∖-iff, single-iff}
 use Rattle.model.specs.Lists.{setAt}
 use Rattle.model.specs.Hierarchy.{candidateCount}
 use Rattle.model.specs.Quality as model
 use Rattle.model.specs.Record.{built, stateOf}
 use Rattle.model.specs.State.{State, rolesOf, standingNow}
-use Rattle.model.proofs.Steps.{roles-now, standing-now, now-now, now-same}
+use Rattle.model.proofs.Steps.{roles-now, standing-now, limits-now, now-now, now-same}
 use Rattle.editing.proofs.Changing.{standing-read}
 use Rattle.reading.specs.declared.quality.Counts.{Counts}
 use Rattle.reading.specs.Reading.{countsOf, weightsOf, Few}
@@ -22,7 +20,7 @@ use Rattle.trials.specs.declared.progress.Progress.{Progress}
 use Rattle.trials.specs.declared.progress.Weights.{Weights}
 use Rattle.trials.specs.Trying.{Ready, Exact, Kin, Going, weightsIn}
 use Rattle.trials.proofs.Correcting.{exact-few}
-use Rattle.trials.proofs.Moving.{roles-count, ready-few}
+use Rattle.trials.proofs.Moving.{roles-count, ready-few, strike-below, restore-below, now-state, now-ready}
 
 pub weights-in : (w : Weights) → weightsIn w ≡ weightsOf (w .role) (w .member) (w .permission) (w .link)
 unfolding weightsIn weightsOf
@@ -40,10 +38,6 @@ pub weighed : (ws : List ℕ) (q : Counts) (w : Weights) (x : ℕ) → Exact ws 
     → x ≡ model.weigh (weightsOf (w .role) (w .member) (w .permission) (w .link)) (countsOf q) → x ≡ model.quality (rolesOf (stateOf ws)) (weightsIn w) (stateOf ws .standing)
 unfolding model.quality
 weighed ws q w x e ex = ex ∙ rw (weights-in w, e) refl
-
-pub weighed-now : (st : State) (S : ℕ) (ws : List ℕ) (q : Counts) (w : Weights) (x : ℕ) → stateOf ws ≡ standingNow st S → Exact ws q
-    → x ≡ model.weigh (weightsOf (w .role) (w .member) (w .permission) (w .link)) (countsOf q) → x ≡ model.quality (rolesOf st) (weightsIn w) S
-weighed-now st S ws q w x es e ex = rw (es, roles-now st S, standing-now st S) at (weighed ws q w x e ex)
 
 -- the record tells which roles stand
 pub stands-read : (ws low users : List ℕ) (R k : ℕ) (t : Bool) → Ready ws low users → R ≡ setAt 2 ws 4 → t ≡ has R k → t ≡ has (stateOf ws .standing) k
@@ -69,45 +63,76 @@ pub kin-count : (ws low users after low' users' : List ℕ) → Ready ws low use
 kin-count ws low users after low' users' a b k =
     sym (roles-count after low' users' b 0) ∙ rw (kin-roles (stateOf ws) after k) (roles-count ws low users a 0)
 
--- ---- a trial taken back
-
-pub restored-back : (ws low users mid after : List ℕ) (k : ℕ) → Ready ws low users → has (stateOf ws .standing) k ≡ false
-    → stateOf mid ≡ standingNow (stateOf ws) (stateOf ws .standing ∪ single k) → after ≡ built (standingNow (stateOf mid) (stateOf mid .standing ∖ single k)) → after ≡ ws
-unfolding standingNow
-restored-back ws low users mid after k ready absent em ea =
-    let st = stateOf ws in
-    let S = st .standing ∪ single k in
-    ea
-    ∙ ap built
-    (rw (em, standing-now st S) (now-now st S (S ∖ single k)) ∙ ap (standingNow st) (with-without (st .standing) k absent) ∙ now-same st)
-    ∙ sym (ready .afresh)
-
-pub struck-back : (ws low users mid after : List ℕ) (k : ℕ) → Ready ws low users → So (has (stateOf ws .standing) k)
-    → stateOf mid ≡ standingNow (stateOf ws) (stateOf ws .standing ∖ single k) → after ≡ built (standingNow (stateOf mid) (stateOf mid .standing ∪ single k)) → after ≡ ws
-unfolding standingNow
-struck-back ws low users mid after k ready stands em ea =
-    let st = stateOf ws in
-    let S = st .standing ∖ single k in
-    ea
-    ∙ ap built
-    (rw (em, standing-now st S) (now-now st S (S ∪ single k)) ∙ ap (standingNow st) (without-with (st .standing) k stands) ∙ now-same st)
-    ∙ sym (ready .afresh)
-
-pub restored-stands : (ws mid : List ℕ) (k : ℕ) → stateOf mid ≡ standingNow (stateOf ws) (stateOf ws .standing ∪ single k) → So (has (stateOf mid .standing) k)
-restored-stands ws mid k e = rw (e, standing-now (stateOf ws) (stateOf ws .standing ∪ single k)) (has-with (stateOf ws .standing) k)
-
-pub struck-absent : (ws mid : List ℕ) (k : ℕ) → stateOf mid ≡ standingNow (stateOf ws) (stateOf ws .standing ∖ single k) → has (stateOf mid .standing) k ≡ false
-struck-absent ws mid k e =
-    rw (e, standing-now (stateOf ws) (stateOf ws .standing ∖ single k))
-    (not-So (has (stateOf ws .standing ∖ single k) k) (λ h. ∖-iff (stateOf ws .standing) (single k) k .0 h .1 (single-iff k k .1 refl)))
-
 -- the progress goes on with the record as it was
 pub going-back : (ws low users after : List ℕ) (g r : Progress) → Going ws low users g → after ≡ ws → r .counts ≡ g .counts → Going after low users r
 going-back ws low users after g r a e ec = record { ready = rw e (a .ready); exact = rw (e, ec) (a .exact) }
 
-pub kin-back : (ws after : List ℕ) → after ≡ ws → Kin (stateOf ws) after
-kin-back ws after e = rw e (kin-same ws)
-
 -- a number below word 2 is a candidate's, and below 128
 pub number-known : (ws low users : List ℕ) (k : ℕ) → Ready ws low users → k < getD ws 2 0 → (k < candidateCount (rolesOf (stateOf ws))) × (k < 128)
 number-known ws low users k ready l = (rw (roles-count ws low users ready k) l, lt-of-lt-of-le l (ready-few ws low users ready))
+
+-- ---- a change that is weighed before it is written
+
+module _ (ws low users : List ℕ) (ready : Ready ws low users) (S : ℕ) (below : S < 2 ^ candidateCount (rolesOf (stateOf ws))) (q : Counts)
+    (e : countsOf q ≡ model.counts (rolesOf (stateOf ws)) S) where
+  pub trial-few : Few q
+  trial-few = exact-few (standingNow (stateOf ws) S) (limits-now (stateOf ws) S (ready .limits) below) q (rw (roles-now (stateOf ws) S, standing-now (stateOf ws) S) e)
+
+  pub trial-weighed : (w : Weights) (x : ℕ) → x ≡ model.weigh (weightsOf (w .role) (w .member) (w .permission) (w .link)) (countsOf q)
+      → x ≡ model.quality (rolesOf (stateOf ws)) (weightsIn w) S
+  unfolding model.quality
+  trial-weighed w x ex = ex ∙ rw (weights-in w, e) refl
+
+  -- written, it is what was weighed
+  pub trial-going : (after : List ℕ) → after ≡ built (standingNow (stateOf ws) S) → (r : Progress) → r .counts ≡ q → Going after low users r
+  trial-going after ea r er =
+      record {
+        ready = now-ready ws low users after ready S below ea;
+        exact = ap countsOf er ∙ rw (now-state ws low users after ready S below ea, roles-now (stateOf ws) S, standing-now (stateOf ws) S) e;
+      }
+
+-- a restoration
+module _ (ws low users : List ℕ) (ready : Ready ws low users) (k : ℕ) (lk : k < candidateCount (rolesOf (stateOf ws))) (q : Counts)
+    (e : countsOf q ≡ model.counts (rolesOf (stateOf ws)) (stateOf ws .standing ∪ single k)) where
+  abbrev S : ℕ
+  S = stateOf ws .standing ∪ single k
+
+  back-below : stateOf ws .standing ∪ single k < 2 ^ candidateCount (rolesOf (stateOf ws))
+  back-below = restore-below ws low users ready k lk
+
+  pub tried-few : Few q
+  tried-few = trial-few ws low users ready S back-below q e
+
+  pub tried-weighed : (w : Weights) (x : ℕ) → x ≡ model.weigh (weightsOf (w .role) (w .member) (w .permission) (w .link)) (countsOf q)
+      → x ≡ model.quality (rolesOf (stateOf ws)) (weightsIn w) (stateOf ws .standing ∪ single k)
+  tried-weighed w x ex = trial-weighed ws low users ready S back-below q e w x ex
+
+  module _ (after : List ℕ) (ea : after ≡ built (standingNow (stateOf ws) (stateOf ws .standing ∪ single k))) where
+    pub tried-state : stateOf after ≡ standingNow (stateOf ws) (stateOf ws .standing ∪ single k)
+    tried-state = now-state ws low users after ready S back-below ea
+
+    pub tried-going : (r : Progress) → r .counts ≡ q → Going after low users r
+    tried-going r er = trial-going ws low users ready S back-below q e after ea r er
+
+-- a strike
+module _ (ws low users : List ℕ) (ready : Ready ws low users) (k : ℕ) (q : Counts)
+    (e : countsOf q ≡ model.counts (rolesOf (stateOf ws)) (stateOf ws .standing ∖ single k)) where
+  abbrev R : ℕ
+  R = stateOf ws .standing ∖ single k
+
+  out-below : stateOf ws .standing ∖ single k < 2 ^ candidateCount (rolesOf (stateOf ws))
+  out-below = strike-below ws low users ready k
+
+  pub struck-few : Few q
+  struck-few = trial-few ws low users ready R out-below q e
+
+  pub struck-weighed : (w : Weights) (x : ℕ) → x ≡ model.weigh (weightsOf (w .role) (w .member) (w .permission) (w .link)) (countsOf q)
+      → x ≡ model.quality (rolesOf (stateOf ws)) (weightsIn w) (stateOf ws .standing ∖ single k)
+  struck-weighed w x ex = trial-weighed ws low users ready R out-below q e w x ex
+
+  module _ (after : List ℕ) (ea : after ≡ built (standingNow (stateOf ws) (stateOf ws .standing ∖ single k))) where
+    pub struck-state : stateOf after ≡ standingNow (stateOf ws) (stateOf ws .standing ∖ single k)
+    struck-state = now-state ws low users after ready R out-below ea
+
+    pub struck-going : (r : Progress) → r .counts ≡ q → Going after low users r
+    struck-going r er = trial-going ws low users ready R out-below q e after ea r er

@@ -1,35 +1,78 @@
--- A record that is built afresh, with its indexes and its counts; and the counts of some of its rows.
+-- A record that is built afresh, with its indexes and its counts; and what its rows would lose or take over where a role is changed.
 -- Assumes nothing.
 use mathlib.Core.Path.{_≡_}
 use mathlib.Core.List.{List}
 use Prim.Native.Nat.{ℕ, _+_, _*_, _≤_}
 use lib.Count.{ones}
+use lib.ListN.{take, drop}
 use Rattle.sets.specs.Truth.{total, if_then_else_}
-use Rattle.sets.specs.Sets.{has, _∩_}
+use Rattle.sets.specs.Held.{set128}
+use Rattle.sets.specs.Sets.{has, _∩_, _∪_, _∖_, single, collect}
 use Rattle.model.specs.Lists.{setAt}
+use Rattle.model.specs.Hierarchy.{Roles, candidateCount, immediateJuniors, directPermissions, directMembers}
 use Rattle.model.specs.Quality as model
-use Rattle.model.specs.Record.{permissionsStart, membersStart, juniorsStart, built, stateOf}
+use Rattle.model.specs.Record.{setsStart, permissionsStart, membersStart, juniorsStart, built, stateOf}
 use Rattle.model.specs.State.{State, rolesOf, standingNow}
 use Rattle.model.specs.Machine.{Run}
 use Rattle.model.proofs.Record.{Limits}
+use Rattle.hierarchy.specs.Tables.{lessAll}
 use Rattle.building.specs.Tables.{Indexed}
 use Rattle.reading.specs.declared.quality.Counts.{Counts}
 use Rattle.reading.specs.Reading.{countsOf}
 use Rattle.trials.specs.declared.progress.Progress.{Progress}
 use Rattle.trials.specs.declared.progress.Weights.{Weights}
+use Rattle.trials.specs.declared.restore.Restoration.{Restoration}
+use Rattle.trials.specs.declared.strike.Strike.{Strike}
 
 -- the sum of f over the items of s below n
 unfoldable pub over : ℕ → ℕ → (ℕ → ℕ) → ℕ
 over n s f = total n (λ i. if has s i then f i else 0)
 
--- the counts of those of n rows that are in s
-unfoldable pub countedAt : ℕ → List ℕ → ℕ → model.Counts
-countedAt n ws s =
+-- what the rows of n roles would lose if role k came back, with the immediate seniors s and the immediate juniors t
+unfoldable pub lostAt : ℕ → List ℕ → List ℕ → ℕ → ℕ → ℕ → model.Counts
+lostAt n ws users k s t =
     record {
-      roles = ones (setAt 2 ws 4 ∩ s);
-      members = over n s (λ k. ones (setAt 2 ws (membersStart + 2 * k)));
-      permissions = over n s (λ k. ones (setAt 4 ws (permissionsStart + 4 * k)));
-      links = over n s (λ k. ones (setAt 2 ws (juniorsStart + 2 * k)));
+      roles = 0;
+      members = over n t (λ j. ones (setAt 2 ws (membersStart + 2 * j) ∩ setAt 2 users (2 * k)));
+      permissions = over n s (λ i. ones (setAt 4 ws (permissionsStart + 4 * i) ∩ setAt 4 (take 512 (drop setsStart ws)) (4 * k)));
+      links = over n s (λ i. ones (setAt 2 ws (juniorsStart + 2 * i) ∩ t));
+    }
+
+-- what role k brings to the building of S: its row, and a link from each immediate senior
+unfoldable pub gainedBy : Roles → ℕ → ℕ → model.Counts
+gainedBy ρ S k =
+    record {
+      roles = 1;
+      members = ones (directMembers ρ S k);
+      permissions = ones (directPermissions ρ S k);
+      links = ones (immediateJuniors ρ S k) + ones (collect (candidateCount ρ) (λ i. has (immediateJuniors ρ S i) k));
+    }
+
+-- what role k has in a record, with the immediate seniors s and the immediate juniors t
+unfoldable pub rowAt : List ℕ → ℕ → ℕ → ℕ → model.Counts
+rowAt ws k s t =
+    record {
+      roles = 1;
+      members = ones (setAt 2 ws (membersStart + 2 * k));
+      permissions = ones (setAt 4 ws (permissionsStart + 4 * k));
+      links = ones t + ones s;
+    }
+
+-- the immediate juniors of role i in a record but k, and the immediate seniors of role j
+unfoldable pub otherJuniors : List ℕ → ℕ → ℕ → ℕ
+otherJuniors ws k i = setAt 2 ws (juniorsStart + 2 * i) ∖ single k
+
+unfoldable pub otherSeniors : ℕ → List ℕ → ℕ → ℕ → ℕ
+otherSeniors c ws k j = collect c (λ i. has (setAt 2 (take 256 (drop juniorsStart ws)) (2 * i)) j) ∖ single k
+
+-- what the rows of n roles would take over from role k, with the immediate seniors s and the immediate juniors t
+unfoldable pub handedAt : ℕ → ℕ → List ℕ → List ℕ → List ℕ → ℕ → ℕ → ℕ → model.Counts
+handedAt n c ws low users k s t =
+    record {
+      roles = 0;
+      members = over n t (λ j. ones (lessAll 2 users (setAt 2 ws (membersStart + 2 * k)) (otherSeniors c ws k j)));
+      permissions = over n s (λ i. ones (lessAll 4 (take 512 (drop setsStart ws)) (setAt 4 ws (permissionsStart + 4 * k)) (otherJuniors ws k i)));
+      links = over n s (λ i. ones (lessAll 2 low t (otherJuniors ws k i)));
     }
 
 -- the record is built afresh from its own state, and low and users are indexes of it
@@ -67,3 +110,17 @@ Kin st ws = stateOf ws ≡ standingNow st (stateOf ws .standing)
 pub record Going (ws low users : List ℕ) (g : Progress) : Type 0 where
   pub ready : Ready ws low users
   pub exact : Exact ws (g .counts)
+
+-- what a restoration of role k would leave: the counts, and its immediate seniors and juniors
+pub record Restores (ws : List ℕ) (k : ℕ) (r : Restoration) : Type 0 where
+  pub counts : countsOf (r .counts) ≡ model.counts (rolesOf (stateOf ws)) (stateOf ws .standing ∪ single k)
+  pub seniors : set128 (r .seniors)
+      ≡ collect (candidateCount (rolesOf (stateOf ws))) (λ i. has (immediateJuniors (rolesOf (stateOf ws)) (stateOf ws .standing ∪ single k) i) k)
+  pub juniors : set128 (r .juniors) ≡ immediateJuniors (rolesOf (stateOf ws)) (stateOf ws .standing ∪ single k) k
+
+-- what a strike of role k would leave: the counts; and its immediate seniors and juniors
+pub record Strikes (ws : List ℕ) (k : ℕ) (r : Strike) : Type 0 where
+  pub counts : countsOf (r .counts) ≡ model.counts (rolesOf (stateOf ws)) (stateOf ws .standing ∖ single k)
+  pub seniors : set128 (r .seniors)
+      ≡ collect (candidateCount (rolesOf (stateOf ws))) (λ i. has (immediateJuniors (rolesOf (stateOf ws)) (stateOf ws .standing) i) k)
+  pub juniors : set128 (r .juniors) ≡ immediateJuniors (rolesOf (stateOf ws)) (stateOf ws .standing) k

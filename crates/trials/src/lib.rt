@@ -1,10 +1,14 @@
-// A role taken out of a record, or put back, with the counts of its rows corrected by what changes at the role's neighbours.
+// The counts that a strike or a restoration would give, found at the role's neighbours without writing it.
 mod count;
+mod handed;
+mod lost;
 mod progress;
 mod restore;
 mod strike;
 
 pub use progress::Progress;
 pub use progress::Weights;
-pub use restore::restore_counted;
-pub use strike::strike_counted;
+pub use restore::Restoration;
+pub use restore::if_restored;
+pub use strike::Strike;
+pub use strike::if_struck;

@@ -2,8 +2,8 @@
 use crate::ask::asked;
 use crate::ask::weighed;
 use crate::damage::both;
-use crate::damage::changed;
-use crate::damage::turned;
+use crate::damage::each_place;
+use crate::damage::each_value;
 use crate::damage::whole;
 use crate::lists::WIDE_129;
 use crate::mined::mined;
@@ -11,25 +11,21 @@ use crate::mined::narrow;
 use crate::show::field;
 use crate::show::text;
 
-// 128 candidates: the last role's set and row, and c.
+// 128 candidates: c, and the last role's set and row.
 fn last_role(rec: &mut [u64]) {
-    changed(rec, 2, 127);
-    changed(rec, 2, 129);
-    turned(rec, 5, 63);
-    turned(rec, 1028, 0);
-    turned(rec, 1540, 0);
-    turned(rec, 1798, 0);
-    turned(rec, 2055, 62);
+    each_value(rec, 2, &[127u64, 129]);
+    each_place(rec, 0, &[1028, 1540, 1798]);
+    each_place(rec, 63, &[5]);
+    each_place(rec, 62, &[2055]);
 }
 
-// 126 candidates: the roles at c and above.
+// 126 candidates: c, and the roles at c and above.
 fn above_c(rec: &mut [u64]) {
-    changed(rec, 2, 125);
-    changed(rec, 2, 127);
-    turned(rec, 5, 61);
-    turned(rec, 5, 62);
-    turned(rec, 5, 63);
-    turned(rec, 1024, 0);
+    each_value(rec, 2, &[125u64, 127]);
+    each_place(rec, 61, &[5]);
+    each_place(rec, 62, &[5]);
+    each_place(rec, 63, &[5]);
+    each_place(rec, 0, &[1024]);
 }
 
 pub fn many_roles(rec: &mut [u64]) {
@@ -43,53 +39,25 @@ pub fn many_roles(rec: &mut [u64]) {
 
 // 128 users, each with permissions 0, 64, 128 and 192.
 fn last_user(rec: &mut [u64]) {
-    changed(rec, 0, 127);
-    changed(rec, 0, 129);
-    changed(rec, 1, 192);
-    changed(rec, 1, 193);
-    changed(rec, 1, 257);
-    turned(rec, 519, 0);
-    turned(rec, 1545, 63);
+    each_value(rec, 0, &[127u64, 129]);
+    each_value(rec, 1, &[192u64, 193, 257]);
+    each_place(rec, 0, &[519]);
+    each_place(rec, 63, &[1545]);
 }
 
 // Rows of three words, permission 128 the last.
 fn last_permission(rec: &mut [u64]) {
-    changed(rec, 1, 128);
-    changed(rec, 1, 130);
-    turned(rec, 10, 0);
-    turned(rec, 10, 1);
-    turned(rec, 11, 0);
-    turned(rec, 522, 0);
-    turned(rec, 1034, 0);
+    each_value(rec, 1, &[128u64, 130]);
+    each_place(rec, 0, &[10, 11, 522, 1034]);
+    each_place(rec, 1, &[10]);
 }
 
-// Empty rows: only the limits decide.
-fn users_alone(rec: &mut [u64]) {
-    changed(rec, 0, 0);
-    changed(rec, 0, 1);
-    changed(rec, 0, 128);
-    changed(rec, 0, 129);
-}
-
-fn permissions_alone(rec: &mut [u64]) {
-    changed(rec, 1, 0);
-    changed(rec, 1, 1);
-    changed(rec, 1, 256);
-    changed(rec, 1, 257);
-}
-
-// There is no role.
-fn no_role(rec: &mut [u64]) {
-    changed(rec, 2, 1);
-    turned(rec, 4, 0);
-    turned(rec, 8, 0);
-    turned(rec, 1544, 0);
-}
-
+// Empty rows: only the limits decide, and there is no role.
 fn empty_rows(rec: &mut [u64]) {
-    users_alone(rec);
-    permissions_alone(rec);
-    no_role(rec);
+    each_value(rec, 0, &[0u64, 1, 128, 129]);
+    each_value(rec, 1, &[0u64, 1, 256, 257]);
+    each_value(rec, 2, &[1u64]);
+    each_place(rec, 0, &[4, 8, 1544]);
     whole(rec);
 }
 

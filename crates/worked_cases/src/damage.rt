@@ -41,6 +41,24 @@ pub fn turned(rec: &mut [u64], place: usize, bit: u64) {
     changed(rec, place, value);
 }
 
+// The word at a place changed to each of these values, and put back each time.
+pub fn each_value(rec: &mut [u64], place: usize, values: &[u64]) {
+    let mut i = 0;
+    while i < values.len() {
+        changed(rec, place, values[i]);
+        i += 1;
+    }
+}
+
+// The same bit turned in the word at each of these places, and turned back.
+pub fn each_place(rec: &mut [u64], bit: u64, places: &[usize]) {
+    let mut i = 0;
+    while i < places.len() {
+        turned(rec, places[i], bit);
+        i += 1;
+    }
+}
+
 // As it was.
 pub fn whole(rec: &[u64]) {
     text(b"whole");
@@ -48,137 +66,103 @@ pub fn whole(rec: &[u64]) {
     end_with(rec);
 }
 
-// Rows 3, 6, 7: added users with empty rows, up to 128, are sound.
-fn users(rec: &mut [u64]) {
-    changed(rec, 0, 0);
-    changed(rec, 0, 1);
-    changed(rec, 0, 2);
-    changed(rec, 0, 4);
-    changed(rec, 0, 128);
-    changed(rec, 0, 129);
+// Rows 3, 6, 7: added users with empty rows, up to 128, are sound, and so are added permissions, up to 256.
+fn counts(rec: &mut [u64]) {
+    each_value(
+        rec,
+        0,
+        &[
+            0u64,
+            1,
+            2,
+            4,
+            128,
+            129,
+            0x100000003,
+            0x8000000000000000,
+            0x8000000000000003,
+            0xffffffffffffffff,
+        ],
+    );
+    each_value(
+        rec,
+        1,
+        &[
+            0u64,
+            1,
+            2,
+            4,
+            256,
+            257,
+            0x100000003,
+            0x8000000000000000,
+            0x8000000000000003,
+            0xffffffffffffffff,
+        ],
+    );
+    each_value(rec, 2, &[0u64, 3, 5, 128, 0x100000004, 0x8000000000000000]);
 }
 
-fn users_far_off(rec: &mut [u64]) {
-    changed(rec, 0, 0x100000003);
-    changed(rec, 0, 0x8000000000000000);
-    changed(rec, 0, 0x8000000000000003);
-    changed(rec, 0, 0xffffffffffffffff);
-}
-
-// And so are added permissions, up to 256.
-fn permissions(rec: &mut [u64]) {
-    changed(rec, 1, 0);
-    changed(rec, 1, 1);
-    changed(rec, 1, 2);
-    changed(rec, 1, 4);
-    changed(rec, 1, 256);
-    changed(rec, 1, 257);
-}
-
-fn permissions_far_off(rec: &mut [u64]) {
-    changed(rec, 1, 0x100000003);
-    changed(rec, 1, 0x8000000000000000);
-    changed(rec, 1, 0x8000000000000003);
-    changed(rec, 1, 0xffffffffffffffff);
-}
-
-fn candidates(rec: &mut [u64]) {
-    changed(rec, 2, 0);
-    changed(rec, 2, 3);
-    changed(rec, 2, 5);
-    changed(rec, 2, 128);
-    changed(rec, 2, 0x100000004);
-    changed(rec, 2, 0x8000000000000000);
-}
-
-// A role taken out alone, and roles at c and above.
-fn standing(rec: &mut [u64]) {
-    turned(rec, 4, 0);
-    turned(rec, 4, 3);
-    turned(rec, 4, 4);
-    turned(rec, 4, 63);
-    turned(rec, 5, 0);
-    turned(rec, 5, 63);
-}
-
-fn zeros(rec: &mut [u64]) {
-    turned(rec, 3, 0);
-    turned(rec, 3, 63);
-    turned(rec, 6, 0);
-    turned(rec, 6, 63);
-    turned(rec, 7, 0);
-    turned(rec, 7, 63);
-}
-
-fn crew_rows(rec: &mut [u64]) {
-    turned(rec, 8, 2);
-    turned(rec, 8, 3);
-    turned(rec, 9, 0);
-    turned(rec, 11, 63);
-    turned(rec, 16, 0);
-    turned(rec, 19, 63);
-}
-
-fn unused_crew_rows(rec: &mut [u64]) {
-    turned(rec, 20, 0);
-    turned(rec, 23, 63);
-    turned(rec, 516, 0);
-    turned(rec, 519, 63);
-}
-
-fn sets(rec: &mut [u64]) {
-    turned(rec, 520, 0);
-    turned(rec, 523, 63);
-    turned(rec, 532, 2);
-    turned(rec, 536, 0);
-    turned(rec, 1028, 0);
-    turned(rec, 1031, 63);
-}
-
-fn direct_permissions(rec: &mut [u64]) {
-    turned(rec, 1032, 1);
-    turned(rec, 1035, 63);
-    turned(rec, 1044, 0);
-    turned(rec, 1048, 0);
-    turned(rec, 1540, 0);
-    turned(rec, 1543, 63);
-}
-
-fn direct_members(rec: &mut [u64]) {
-    turned(rec, 1544, 0);
-    turned(rec, 1545, 63);
-    turned(rec, 1550, 2);
-    turned(rec, 1552, 0);
-    turned(rec, 1798, 0);
-    turned(rec, 1799, 63);
-}
-
-fn juniors(rec: &mut [u64]) {
-    turned(rec, 1800, 0);
-    turned(rec, 1801, 63);
-    turned(rec, 1806, 1);
-    turned(rec, 1808, 0);
-    turned(rec, 2054, 0);
-    turned(rec, 2055, 63);
-}
-
-fn header(rec: &mut [u64]) {
-    users(rec);
-    users_far_off(rec);
-    permissions(rec);
-    permissions_far_off(rec);
-    candidates(rec);
-    standing(rec);
-    zeros(rec);
-}
-
+// The first and the last word of each region, and of what is used of it: bit 0, and bit 63.
 fn regions(rec: &mut [u64]) {
-    crew_rows(rec);
-    unused_crew_rows(rec);
-    sets(rec);
-    direct_permissions(rec);
-    direct_members(rec);
-    juniors(rec);
+    each_place(
+        rec,
+        0,
+        &[
+            3,
+            4,
+            5,
+            6,
+            7,
+            9,
+            16,
+            20,
+            516,
+            520,
+            536,
+            1028,
+            1044,
+            1048,
+            1540,
+            1544,
+            1552,
+            1798,
+            1800,
+            1808,
+            2054,
+        ],
+    );
+    each_place(
+        rec,
+        63,
+        &[
+            3,
+            4,
+            5,
+            6,
+            7,
+            11,
+            19,
+            23,
+            519,
+            523,
+            1031,
+            1035,
+            1543,
+            1545,
+            1799,
+            1801,
+            2055,
+        ],
+    );
+}
+
+// A role taken out alone, one at c, and a bit of each kind of row that is used.
+fn marks_and_rows(rec: &mut [u64]) {
+    each_place(rec, 3, &[4, 8]);
+    each_place(rec, 4, &[4]);
+    each_place(rec, 2, &[8, 532, 1550]);
+    each_place(rec, 1, &[1032, 1806]);
 }
 
 // A damaged record is refused before a weight or a user is looked at.
@@ -196,8 +180,9 @@ fn refused_first(rec: &mut [u64]) {
 pub fn small_record(rec: &mut [u64]) {
     narrow(32, 3, &[3u64, 6, 7], rec);
     whole(rec);
-    header(rec);
+    counts(rec);
     regions(rec);
+    marks_and_rows(rec);
     refused_first(rec);
     whole(rec);
 }

@@ -1,4 +1,4 @@
-// The cases of document 01 that are not starred, and the starred ones run, lists wider than one word, and damaged records: a line for each.
+// The cases of document 01 that are not starred, and the starred ones run, lists wider than one word, damaged records, and crew texts: a line for each.
 mod ask;
 mod borders;
 mod built;
@@ -6,6 +6,7 @@ mod damage;
 mod edits;
 mod lists;
 mod mined;
+mod reader;
 mod show;
 
 fn mining(rec: &mut [u64]) {
@@ -38,10 +39,19 @@ fn editing(rec: &mut [u64]) {
     edits::unfit();
 }
 
+fn reading() {
+    reader::limits();
+    reader::bits();
+    reader::headers();
+    reader::rows();
+    reader::short_buffer();
+}
+
 fn main() {
     let mut rec = [0xaaaa_aaaa_aaaa_aaaau64; 2056];
     mining(&mut rec);
     asking(&mut rec);
     damaging(&mut rec);
     editing(&mut rec);
+    reading();
 }

@@ -1,7 +1,7 @@
 -- Each way through `readCrew`.
 -- Assumes nothing.
 use Rattle.crewtext.proofs.Answers.{refused-is, wrong-buffer, too-long, by-crew, by-malformed, by-beyond}
-use Rattle.crewtext.proofs.Lines.{limits-iff}
+use Rattle.model.proofs.Record.{withinLimits-iff}
 use Rattle.crewtext.proofs.Forms.{header-form}
 use mathlib.Core.Path.{sym, _∙_}
 use borrow.Author.Needs.{needs}
@@ -28,7 +28,7 @@ enum-known-n : tie.Need-enum-known-n
 enum-known-n c = search needs
 
 fill-requires : tie.Need-fill-requires
-fill-requires c κs = let k = limits-iff _ _ (header-form _ _ _ _ (sym (c .before .before .before .before .read-header .ensures) ∙ c .before .before .n .given .1) .limits) in (k .1, k .3, omega arith)
+fill-requires c κs = let k = withinLimits-iff _ _ .0 (header-form _ _ _ _ (sym (c .before .before .before .before .read-header .ensures) ∙ c .before .before .n .given .1) .limits) in (k .1, k .3, omega arith)
 
 enum-told : tie.Need-enum-told
 enum-told c = search needs

@@ -1,23 +1,23 @@
--- The table has r and its intersections with the first i old sets.
+-- The meets of r with the first i sets of the table are in it.
 -- Assumes nothing.
-use Prim.Native.Nat.{_-_, _≤_}
+use Prim.Native.Nat.{_-_}
 use borrow.Author.Needs.{needs}
 use Rattle.sets.specs.Held.{set256}
 use Rattle.model.specs.Lists.{rowsAt}
-use Rattle.model.proofs.Candidates.{addedTo}
-use Rattle.mining.specs.Mining.{Holds}
-use Rattle.mining.proofs.Meeting.{adding-none, adding-all, adding-growing, adding-more, adding-full}
+use Rattle.mining.specs.Mining.{Framed, Seen}
+use Rattle.mining.proofs.Meeting.{Walked, walked-none}
+use Rattle.mining.proofs.Walking.{walking-known, walking-placed, walking-full, walking-all, seen-held}
 use Rattle.mining.proofs.add_meets.Statement.{statement}
 use Rattle.mining.proofs.add_meets.Tie as tie
 
 abbrev Inv-loop : tie.InvT-loop
-Inv-loop table₀ n r old m count₀ i₀ table count i = (i ≤ m) × Holds table count (addedTo (set256 r) (rowsAt m old 0) i)
+Inv-loop table₀ seen₀ n r count₀ i₀ table seen count i = Framed table count × Walked (set256 r) (rowsAt n table₀ 0) (rowsAt count table 0) i × Seen seen (rowsAt count table 0)
 
 abbrev μ-loop : tie.MeasureT-loop
-μ-loop table₀ n r old m count₀ i₀ table count i = m - i
+μ-loop table₀ seen₀ n r count₀ i₀ table seen count i = 128 - i
 
 loop-holds : tie.Need-loop-holds Inv-loop μ-loop
-loop-holds c = (search needs, adding-none _ _ _ (c .before .before .pre .1) (c .before .before .pre .2))
+loop-holds c = (c .before .before .pre .0, walked-none _ _ (c .before .before .pre .1), c .before .before .pre .2)
 
 mul-load256 : tie.Need-mul-load256 Inv-loop μ-loop
 mul-load256 c = search needs
@@ -25,11 +25,29 @@ mul-load256 c = search needs
 load256-requires : tie.Need-load256-requires Inv-loop μ-loop
 load256-requires c κs = search needs
 
-admit-meet-requires : tie.Need-admit-meet-requires Inv-loop μ-loop
-admit-meet-requires c κs =
-    let at-loop = c .before .before .before in
-    let start = at-loop .before .before .before in
-    (at-loop .loop .inv .1 .frame, adding-growing _ _ _ (start .pre .1) _ (at-loop .loop .inv .1))
+intersection-requires : tie.Need-intersection-requires Inv-loop μ-loop
+intersection-requires c κs = search needs
+
+add-i : tie.Need-add-i Inv-loop μ-loop
+add-i c = search needs
+
+is-known-requires : tie.Need-is-known-requires Inv-loop μ-loop
+is-known-requires c κs = c .before .before .before .before .before .loop .inv .2 .size
+
+loop-less : tie.Need-loop-less Inv-loop μ-loop
+loop-less c = search needs
+
+loop-again : tie.Need-loop-again Inv-loop μ-loop
+loop-again c =
+    let at-loop = c .before .before .before .before .before .before .before in (
+      at-loop .loop .inv .0,
+      walking-known _ _ _ _ _ (at-loop .loop .inv .1) _ _ (c .before .before .before .before .load256 .ensures) (c .before .before .before .intersection .ensures) (c .before .before .before .before .before .before .loop-test .taken)
+          _ (at-loop .loop .inv .2) (rw (c .if1 .taken) at (c .before .is-known .ensures)),
+      at-loop .loop .inv .2,
+    )
+
+admit-requires : tie.Need-admit-requires Inv-loop μ-loop
+admit-requires c κs = let inv = c .before .before .before .before .before .before .before .before .before .loop .inv in (inv .0, inv .1 .grows, inv .2)
 
 enum-known-k : tie.Need-enum-known-k Inv-loop μ-loop
 enum-known-k c = search needs
@@ -40,36 +58,40 @@ enum-told c = search needs
 same-length : tie.Need-same-length Inv-loop μ-loop
 same-length c = search needs
 
-returns : tie.Need-returns Inv-loop μ-loop
-returns c =
-    let called = c .before .before .before .before in
-    let in-loop = called .before .before .before in
-    let start = in-loop .before .before .before .before in
-    adding-full _ _ _ (start .pre .1) _ (in-loop .before .loop .inv .1) _ (called .before .before .load256 .ensures) (in-loop .loop-test .taken)
-    (rw (c .enum-told .given .1) at (called .admit-meet .ensures))
-
-add-i : tie.Need-add-i Inv-loop μ-loop
-add-i c = search needs
-
-loop-less : tie.Need-loop-less Inv-loop μ-loop
-loop-less c = search needs
-
-loop-again : tie.Need-loop-again Inv-loop μ-loop
-loop-again c =
-    let called = c .before .before .before .before .before in
-    let in-loop = called .before .before .before in
-    let start = in-loop .before .before .before .before in (
-      search needs,
-      adding-more _ _ _ (start .pre .1) _ (in-loop .before .loop .inv .1) _ (called .before .before .load256 .ensures) (in-loop .loop-test .taken)
-          (rw (c .before .k .given .1) at (called .admit-meet .ensures)),
-    )
-
 same-length-2 : tie.Need-same-length-2 Inv-loop μ-loop
 same-length-2 c = search needs
 
+returns : tie.Need-returns Inv-loop μ-loop
+returns c =
+    let called = c .before .before .before .before .before .before in
+    let at-loop = c .before .before .before .before .before .before .before .before .before .before .before .before .before .before .before .before in
+    walking-full _ _ _ _ _ (at-loop .loop .inv .1) _ _ (c .before .before .before .before .before .before .before .before .before .before .before .before .before .load256 .ensures) (c .before .before .before .before .before .before .before .before .before .before .before .before .intersection .ensures) (c .before .before .before .before .before .before .before .before .before .before .before .before .before .before .before .loop-test .taken)
+    (rw (c .before .before .before .before .before .before .before .before .before .if1 .left) at (c .before .before .before .before .before .before .before .before .before .before .is-known .ensures)) (c .before .before .before .before .before .before .before .before .before .before .before .before .before .before .before .before .before .before .before .pre .1) (rw (c .enum-told .given .1) at (called .admit .ensures))
+
+loop-less-2 : tie.Need-loop-less-2 Inv-loop μ-loop
+loop-less-2 c = search needs
+
+loop-again-2 : tie.Need-loop-again-2 Inv-loop μ-loop
+loop-again-2 c =
+    let at-loop = c .before .before .before .before .before .before .before .before .before .before .before .before .before .before .before .before .before in
+    let new = rw (c .before .k .given .1) at (c .before .before .before .before .before .before .before .admit .ensures) in (
+      new .0 .frame,
+      walking-placed _ _ _ _ _ (at-loop .loop .inv .1) _ _ (c .before .before .before .before .before .before .before .before .before .before .before .before .before .before .load256 .ensures) (c .before .before .before .before .before .before .before .before .before .before .before .before .before .intersection .ensures) (c .before .before .before .before .before .before .before .before .before .before .before .before .before .before .before .before .loop-test .taken)
+          (rw (c .before .before .before .before .before .before .before .before .before .before .if1 .left) at (c .before .before .before .before .before .before .before .before .before .before .before .is-known .ensures)) (new .0),
+      seen-held (new .0) (new .1),
+    )
+
+same-length-3 : tie.Need-same-length-3 Inv-loop μ-loop
+same-length-3 c = search needs
+
+same-length-4 : tie.Need-same-length-4 Inv-loop μ-loop
+same-length-4 c = search needs
+
 returns-2 : tie.Need-returns-2 Inv-loop μ-loop
 returns-2 c =
-    adding-all _ _ _ (c .before .before .before .before .pre .1) (c .before .loop .inv .1) (c .before .loop .inv .0) (c .loop-test .left)
+    let at-loop = c .before in
+    let start = c .before .before .before .before in
+    walking-all _ _ _ _ _ (at-loop .loop .inv .1) (start .pre .1) (start .pre .3) (c .loop-test .left) _ (at-loop .loop .inv .0) (at-loop .loop .inv .2)
 
 pub add-meets-spec : {M : Type 1} → statement M
 add-meets-spec =
@@ -80,13 +102,19 @@ add-meets-spec =
     loop-holds
     mul-load256
     load256-requires
-    admit-meet-requires
+    intersection-requires
+    add-i
+    is-known-requires
+    loop-less
+    loop-again
+    admit-requires
     enum-known-k
     enum-told
     same-length
-    returns
-    add-i
-    loop-less
-    loop-again
     same-length-2
+    returns
+    loop-less-2
+    loop-again-2
+    same-length-3
+    same-length-4
     returns-2)

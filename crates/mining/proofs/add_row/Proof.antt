@@ -5,6 +5,7 @@ use borrow.Author.Tests.{eqb-true, eqb-false}
 use borrow.Author.Needs.{needs}
 use Rattle.mining.proofs.Placing.{found-listed}
 use Rattle.mining.proofs.Meeting.{row-empty, row-listed}
+use Rattle.mining.proofs.Walking.{held-seen}
 use Rattle.mining.proofs.add_row.Statement.{statement}
 use Rattle.mining.proofs.add_row.Tie as tie
 
@@ -12,7 +13,9 @@ is-empty-requires : tie.Need-is-empty-requires
 is-empty-requires c κs = search needs
 
 returns : tie.Need-returns
-returns c = row-empty _ (c .before .before .before .pre .0) (eqb-true _ _ (sym (c .before .is-empty .ensures) ∙ c .if1 .taken))
+returns c =
+    let start = c .before .before .before .before in
+    held-seen (row-empty _ (start .pre .0) (eqb-true _ _ (sym (c .before .is-empty .ensures) ∙ c .if1 .taken))) (start .pre .2)
 
 search-requires : tie.Need-search-requires
 search-requires c κs = search needs
@@ -28,22 +31,24 @@ same-length c = search needs
 
 returns-2 : tie.Need-returns-2
 returns-2 c =
-    let start = c .before .before .before .before .before .before .before in
-    row-listed _ (start .pre .0) (start .pre .1) (found-listed _ _ _ (rw (c .enum-told .given .1) at (c .before .before .search .ensures)))
+    let start = c .before .before .before .before .before .before .before .before in
+    held-seen (row-listed _ (start .pre .0) (start .pre .1) (found-listed _ _ _ (rw (c .enum-told .given .1) at (c .before .before .search .ensures)))) (start .pre .2)
 
 add-new-requires : tie.Need-add-new-requires
 add-new-requires c κs =
-    let called = c .before .before .before .before in
-    let at-test = called .before .before in
-    let start = at-test .before .before .before in (
+    let start = c .before .before .before .before .before .before .before .before .before .before .before in (
       start .pre .0,
       start .pre .1 .grows,
-      eqb-false _ _ (sym (at-test .before .is-empty .ensures) ∙ at-test .if1 .left),
-      rw (c .before .before .at .given .1) at (called .search .ensures),
+      start .pre .2,
+      eqb-false _ _ (sym (c .before .before .before .before .before .before .before .before .is-empty .ensures) ∙ c .before .before .before .before .before .before .before .if1 .left),
+      rw (c .before .before .before .at .given .1) at (c .before .before .before .before .before .search .ensures),
     )
 
 same-length-2 : tie.Need-same-length-2
 same-length-2 c = search needs
+
+same-length-3 : tie.Need-same-length-3
+same-length-3 c = search needs
 
 returns-3 : tie.Need-returns-3
 returns-3 c = search needs
@@ -61,4 +66,5 @@ add-row-spec =
     returns-2
     add-new-requires
     same-length-2
+    same-length-3
     returns-3)

@@ -1,9 +1,14 @@
 -- A set that is found is listed already.
 -- Assumes nothing.
-use borrow.Author.Needs.{needs}
+use native.Mathlib.Omega.{arith}
 use Rattle.mining.proofs.Placing.{holds-listed, found-listed}
+use Rattle.mining.proofs.Seeing.{seen-placed, admits-adds}
+use borrow.Author.Needs.{needs}
 use Rattle.mining.proofs.admit.Statement.{statement}
 use Rattle.mining.proofs.admit.Tie as tie
+
+remember-requires : tie.Need-remember-requires
+remember-requires c κs = search needs
 
 search-requires : tie.Need-search-requires
 search-requires c κs = search needs
@@ -17,32 +22,44 @@ enum-told c = search needs
 same-length : tie.Need-same-length
 same-length c = search needs
 
-returns : tie.Need-returns
-returns c =
-    let start = c .before .before .before .before .before in
-    holds-listed (start .pre .0) (start .pre .1) (found-listed _ _ _ (rw (c .enum-told .given .1) at (c .before .before .search .ensures)))
-
-put-requires : tie.Need-put-requires
-put-requires c κs = (
-  c .before .before .before .before .before .before .before .pre .0,
-  rw (c .before .before .at .given .1) at (c .before .before .before .before .search .ensures),
-)
-
 same-length-2 : tie.Need-same-length-2
 same-length-2 c = search needs
 
+returns : tie.Need-returns
+returns c =
+    let start = c .before .before .before .before .before .before .before .before .before .before in
+    let noted = c .before .before .before .before .before .before .remember in (
+      holds-listed (start .pre .0) (start .pre .1) (found-listed _ _ _ (rw (c .enum-told .given .1) at (c .before .before .search .ensures))),
+      seen-placed (start .pre .2) _ (noted .ensures) (let k = noted .kept in omega (arith, start .pre .2 .size)),
+    )
+
+put-requires : tie.Need-put-requires
+put-requires c κs = (c .before .before .before .before .before .before .before .before .before .before .before .before .pre .0, rw (c .before .before .at .given .1) at (c .before .before .before .before .search .ensures))
+
+same-length-3 : tie.Need-same-length-3
+same-length-3 c = search needs
+
+same-length-4 : tie.Need-same-length-4
+same-length-4 c = search needs
+
 returns-2 : tie.Need-returns-2
-returns-2 c = search needs
+returns-2 c =
+    let start = c .before .before .before .before .before .before .before .before .before .before .before .before .before .before .before in
+    let noted = c .before .before .before .before .before .before .before .before .before .before .before .remember in
+    admits-adds _ (c .before .before .put .last .0) (noted .last .0) (c .before .before .put .result) (c .before .before .put .ensures) (seen-placed (start .pre .2) _ (noted .ensures) (let k = noted .kept in omega (arith, start .pre .2 .size)))
 
 pub admit-spec : {M : Type 1} → statement M
 admit-spec =
     tie.close
     (tie.spec
+    remember-requires
     search-requires
     enum-known-at
     enum-told
     same-length
+    same-length-2
     returns
     put-requires
-    same-length-2
+    same-length-3
+    same-length-4
     returns-2)

@@ -1,16 +1,22 @@
 -- The table has the candidates of the rows before place i.
 -- Assumes nothing.
-use Prim.Native.Nat.{_-_}
+use Prim.Native.Nat.{ℕ, _-_}
+use lib.ListN.{length-replicate}
 use borrow.Author.Needs.{needs}
+use Rattle.model.specs.Lists.{rowsAt}
+use Rattle.mining.specs.Mining.{Seen}
 use Rattle.mining.proofs.Persons.{Mining, mining-none, mining-table, mining-all, mining-more, mining-full}
+use Rattle.mining.proofs.Written.{blank}
+use Rattle.mining.proofs.Seeing.{seen-none}
+use Rattle.mining.proofs.Walking.{seen-held}
 use Rattle.mining.proofs.mine.Statement.{statement}
 use Rattle.mining.proofs.mine.Tie as tie
 
 abbrev Inv-loop : tie.InvT-loop
-Inv-loop crew at n table₀ end count₀ i₀ table count i = Mining n crew at i table count
+Inv-loop crew at n table₀ seen₀ end count₀ i₀ table seen count i = Mining n crew at i table count × Seen seen (rowsAt count table 0)
 
 abbrev μ-loop : tie.MeasureT-loop
-μ-loop crew at n table₀ end count₀ i₀ table count i = end - i
+μ-loop crew at n table₀ seen₀ end count₀ i₀ table seen count i = end - i
 
 mul-end : tie.Need-mul-end Inv-loop μ-loop
 mul-end c = search needs
@@ -19,7 +25,7 @@ add-end : tie.Need-add-end Inv-loop μ-loop
 add-end c = search needs
 
 loop-holds : tie.Need-loop-holds Inv-loop μ-loop
-loop-holds c = mining-none _ _ _ _ (c .before .before .pre .1) (c .before .before .pre .2)
+loop-holds c = (mining-none _ _ _ _ (c .before .before .pre .1) (c .before .before .pre .2), seen-none _ _ (length-replicate {A = ℕ} 512 0) (blank 512))
 
 add-loop : tie.Need-add-loop Inv-loop μ-loop
 add-loop c = search needs
@@ -27,10 +33,13 @@ add-loop c = search needs
 load256-requires : tie.Need-load256-requires Inv-loop μ-loop
 load256-requires c κs = search needs
 
+slice-aggregate-add-row : tie.Need-slice-aggregate-add-row Inv-loop μ-loop
+slice-aggregate-add-row c = search needs
+
 add-row-requires : tie.Need-add-row-requires Inv-loop μ-loop
 add-row-requires c κs =
-    let at-loop = c .before .before .before in
-    (at-loop .loop .inv .holds .frame, mining-table _ _ _ _ (at-loop .loop .inv))
+    let inv = c .before .before .before .before .loop .inv in
+    (inv .0 .holds .frame, mining-table _ _ _ _ (inv .0), inv .1)
 
 enum-known-k : tie.Need-enum-known-k Inv-loop μ-loop
 enum-known-k c = search needs
@@ -43,10 +52,8 @@ same-length c = search needs
 
 returns : tie.Need-returns Inv-loop μ-loop
 returns c =
-    let called = c .before .before .before .before in
-    let in-loop = called .before .before .before in
-    mining-full _ _ _ _ (in-loop .before .loop .inv) _ (called .before .before .load256 .ensures) (in-loop .loop-test .taken)
-    (rw (c .enum-told .given .1) at (called .add-row .ensures))
+    mining-full _ _ _ _ (c .before .before .before .before .before .before .before .before .before .before .loop .inv .0) _ (c .before .before .before .before .before .before .before .before .load256 .ensures) (c .before .before .before .before .before .before .before .before .before .loop-test .taken)
+    (rw (c .enum-told .given .1) at (c .before .before .before .before .before .add-row .ensures))
 
 add-i : tie.Need-add-i Inv-loop μ-loop
 add-i c = search needs
@@ -56,16 +63,17 @@ loop-less c = search needs
 
 loop-again : tie.Need-loop-again Inv-loop μ-loop
 loop-again c =
-    let called = c .before .before .before .before .before in
-    let in-loop = called .before .before .before in
-    mining-more _ _ _ _ (in-loop .before .loop .inv) _ (called .before .before .load256 .ensures) (in-loop .loop-test .taken)
-    (rw (c .before .k .given .1) at (called .add-row .ensures)) (λ w. c .before .before .before .slice-known2 .given w .fits)
+    let new = rw (c .before .k .given .1) at (c .before .before .before .before .before .before .add-row .ensures) in (
+      mining-more _ _ _ _ (c .before .before .before .before .before .before .before .before .before .before .before .loop .inv .0) _ (c .before .before .before .before .before .before .before .before .before .load256 .ensures) (c .before .before .before .before .before .before .before .before .before .before .loop-test .taken) (new .0)
+          (λ w. c .before .before .before .before .slice-known2 .given w .fits),
+      seen-held (new .0) (new .1),
+    )
 
 same-length-2 : tie.Need-same-length-2 Inv-loop μ-loop
 same-length-2 c = search needs
 
 returns-2 : tie.Need-returns-2 Inv-loop μ-loop
-returns-2 c = mining-all _ _ _ _ (c .before .loop .inv) (c .loop-test .left)
+returns-2 c = mining-all _ _ _ _ (c .before .loop .inv .0) (c .loop-test .left)
 
 pub mine-spec : {M : Type 1} → statement M
 mine-spec =
@@ -78,6 +86,7 @@ mine-spec =
     loop-holds
     add-loop
     load256-requires
+    slice-aggregate-add-row
     add-row-requires
     enum-known-k
     enum-told

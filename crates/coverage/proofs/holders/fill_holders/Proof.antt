@@ -1,77 +1,26 @@
--- The permissions that are not in `rest` have their entries.
+-- A column for each, or all 256 of them.
 -- Assumes nothing.
 use borrow.Author.Needs.{needs}
-use mathlib.Core.Path.{_≡_}
-use Prim.Native.Nat.{_*_, _^_, _<_}
-use native.Mathlib.Omega.{arith}
-use lib.Count.{ones}
-use lib.ListN.{length}
-use Rattle.sets.specs.Held.{set128, set256}
-use Rattle.sets.specs.Sets.{has, collect}
-use Rattle.sets.proofs.Written.{words, held128}
-use Rattle.model.specs.Lists.{setAt}
-use Rattle.hierarchy.proofs.Sieving.{fewer, not-empty, is-empty}
-use Rattle.coverage.proofs.Sparing.{HeldBut, held-start, held-more, held-all}
+use Prim.Native.Nat.{_^_, _<_}
+use Rattle.sets.specs.Held.{set256}
+use Rattle.sets.proofs.Items.{item-below}
+use Rattle.sets.proofs.Written.{words, held256}
 use Rattle.coverage.proofs.holders.fill_holders.Statement.{statement}
 use Rattle.coverage.proofs.holders.fill_holders.Tie as tie
 
-abbrev Inv-loop : tie.InvT-loop
-Inv-loop table c out₀ rest₀ out rest =
-    (length out ≡ 512) × HeldBut (set256 rest₀) (set256 rest) (λ p. collect c (λ k. has (setAt 4 table (4 * k)) p)) out
-
-abbrev μ-loop : tie.MeasureT-loop
-μ-loop table c out₀ rest₀ out rest = ones (set256 rest)
-
-loop-holds : tie.Need-loop-holds Inv-loop μ-loop
-loop-holds c = (search needs, held-start _ _ _)
-
-is-empty-requires : tie.Need-is-empty-requires Inv-loop μ-loop
-is-empty-requires c κs = search needs
-
-lowest-permission-requires : tie.Need-lowest-permission-requires Inv-loop μ-loop
-lowest-permission-requires c κs = not-empty _ _ (c .before .is-empty .ensures) (c .if1 .taken)
-
-mul-store128 : tie.Need-mul-store128 Inv-loop μ-loop
-mul-store128 c = let l = c .before .lowest-permission .ensures .1 in omega arith
-
-holders-of-requires : tie.Need-holders-of-requires Inv-loop μ-loop
-holders-of-requires c κs = search needs
-
-store128-requires : tie.Need-store128-requires Inv-loop μ-loop
-store128-requires c κs = let l = c .before .before .lowest-permission .ensures .1 in omega arith
-
-remove-requires : tie.Need-remove-requires Inv-loop μ-loop
-remove-requires c κs = search needs
-
-loop-less : tie.Need-loop-less Inv-loop μ-loop
-loop-less c = rw (c .remove .ensures) (fewer _ _ (c .before .before .before .before .before .before .lowest-permission .ensures .0))
-
-loop-again : tie.Need-loop-again Inv-loop μ-loop
-loop-again c =
-    let small : set128 (c .before .before .before .before .holders-of .result) < 2 ^ 128 = search (words, held128) in
-    let l = c .before .before .before .before .before .before .lowest-permission .ensures .1 in
-    (omega arith, rw (c .remove .ensures, c .before .before .before .store128 .ensures) (held-more _ _ _ _ _ _ (c .before .before .before .before .before .before .before .before .before .loop .inv .1) (omega arith) small (c .before .before .before .before .holders-of .ensures)))
-
-same-length : tie.Need-same-length Inv-loop μ-loop
-same-length c = omega arith
-
-returns : tie.Need-returns Inv-loop μ-loop
-returns c = held-all _ _ _ _ (c .before .before .loop .inv .1) (is-empty _ _ (c .before .is-empty .ensures) (c .if1 .left))
+returns-2 : tie.Need-returns-2
+returns-2 c p t =
+    let bound : set256 (c .before .before .before .before .before .before .before .before .args .permissions) < 2 ^ 256 = search (words, held256) in
+    c .before .before .fill-columns-of .ensures .0 p (item-below 256 _ p bound t)
 
 pub fill-holders-spec : {M : Type 1} → statement M
 fill-holders-spec =
     tie.close
     (tie.spec
-    Inv-loop
-    μ-loop
-    loop-holds
-    is-empty-requires
-    lowest-permission-requires
-    mul-store128
-    holders-of-requires
-    store128-requires
-    remove-requires
-    loop-less
-    loop-again
-    same-length
-    returns)
+    (λ c κs. search needs)
+    (λ c κs. search needs)
+    (λ c. search needs)
+    (λ c. search needs)
+    (λ c κs. search needs)
+    (λ c. search needs)
+    returns-2)

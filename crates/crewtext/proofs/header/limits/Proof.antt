@@ -1,24 +1,18 @@
--- Each limit broken, or all kept.
+-- A limit broken, or all kept.
 -- Assumes nothing.
-use Rattle.crewtext.proofs.Lines.{limits-broken, limits-kept}
-use native.Mathlib.Omega.{arith}
+use borrow.Author.Needs.{needs}
+use Rattle.crewtext.proofs.Lines.{said-no, said-yes, limits-broken, limits-kept}
 use Rattle.crewtext.proofs.header.limits.Statement.{statement}
 use Rattle.crewtext.proofs.header.limits.Tie as tie
 
+limits-kept-requires : tie.Need-limits-kept-requires
+limits-kept-requires c κs = search needs
+
 returns : tie.Need-returns
-returns c = limits-broken _ _ _ (λ k. omega (arith, k .0, k .1, k .2, k .3))
+returns c = limits-broken _ _ _ (said-no (c .before .limits-kept .ensures) (c .if1 .taken))
 
 returns-2 : tie.Need-returns-2
-returns-2 c = limits-broken _ _ _ (λ k. omega (arith, k .0, k .1, k .2, k .3))
-
-returns-3 : tie.Need-returns-3
-returns-3 c = limits-broken _ _ _ (λ k. omega (arith, k .0, k .1, k .2, k .3))
-
-returns-4 : tie.Need-returns-4
-returns-4 c = limits-broken _ _ _ (λ k. omega (arith, k .0, k .1, k .2, k .3))
-
-returns-5 : tie.Need-returns-5
-returns-5 c = limits-kept _ _ _ (omega arith) (omega arith) (omega arith) (omega arith)
+returns-2 c = limits-kept _ _ _ (said-yes (c .before .limits-kept .ensures) (c .if1 .left))
 
 pub limits-spec : {M : Type 1} → statement M
-limits-spec = tie.close (tie.spec returns returns-2 returns-3 returns-4 returns-5)
+limits-spec = tie.close (tie.spec limits-kept-requires returns returns-2)

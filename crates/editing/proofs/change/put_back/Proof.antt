@@ -5,9 +5,6 @@ use Rattle.editing.proofs.Changing.{put-seniors, put-juniors}
 use Rattle.editing.proofs.change.put_back.Statement.{statement}
 use Rattle.editing.proofs.change.put_back.Tie as tie
 
-slice-read-c : tie.Need-slice-read-c
-slice-read-c c = search needs
-
 load128-requires : tie.Need-load128-requires
 load128-requires c κs = search needs
 
@@ -29,14 +26,13 @@ same-length c = search needs
 returns : tie.Need-returns
 returns c st roles lim e ix below absent =
     c .before .before .put-back-at .ensures st roles lim e ix below absent
-    (put-seniors st lim _ _ e (ix .low-ones) _ (c .before .before .before .before .before .before .before .before .before .before .before .before .before .pre .3) _ _ (c .before .before .before .before .before .before .before .load128 .ensures) (c .before .before .before .before .before .before .insert .ensures) below _ (c .before .before .before .before .before .seniors-of .ensures))
-    (put-juniors st lim _ _ e (ix .low-ones) _ (c .before .before .before .before .before .before .before .before .before .before .before .before .before .pre .3) _ _ (c .before .before .before .before .before .before .before .load128 .ensures) (c .before .before .before .before .before .before .insert .ensures) below _ (c .before .before .before .before .juniors-of .ensures))
+    (put-seniors st lim _ _ e (ix .low-ones) _ (c .before .before .before .before .before .before .before .before .before .before .before .before .pre .3) _ _ (c .before .before .before .before .before .before .before .load128 .ensures) (c .before .before .before .before .before .before .insert .ensures) below _ (c .before .before .before .before .before .seniors-of .ensures))
+    (put-juniors st lim _ _ e (ix .low-ones) _ (c .before .before .before .before .before .before .before .before .before .before .before .before .pre .3) _ _ (c .before .before .before .before .before .before .before .load128 .ensures) (c .before .before .before .before .before .before .insert .ensures) below _ (c .before .before .before .before .juniors-of .ensures))
 
 pub put-back-spec : {M : Type 1} → statement M
 put-back-spec =
     tie.close
     (tie.spec
-    slice-read-c
     load128-requires
     insert-requires
     seniors-of-requires

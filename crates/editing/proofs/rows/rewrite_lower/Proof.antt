@@ -5,26 +5,14 @@ use Rattle.editing.proofs.Partway.{lower-rewritten}
 use Rattle.editing.proofs.rows.rewrite_lower.Statement.{statement}
 use Rattle.editing.proofs.rows.rewrite_lower.Tie as tie
 
-sub-column : tie.Need-sub-column
-sub-column c = search needs
-
-part-column-start : tie.Need-part-column-start
-part-column-start c = search needs
-
-part-column-end : tie.Need-part-column-end
-part-column-end c = search needs
-
-column-requires : tie.Need-column-requires
-column-requires c κs = search needs
+members-at-requires : tie.Need-members-at-requires
+members-at-requires c κs = search needs
 
 mul-store128 : tie.Need-mul-store128
 mul-store128 c = search needs
 
 add-store128 : tie.Need-add-store128
 add-store128 c = search needs
-
-members-of-requires : tie.Need-members-of-requires
-members-of-requires c κs = search needs
 
 store128-requires : tie.Need-store128-requires
 store128-requires c κs = search needs
@@ -33,21 +21,7 @@ same-length : tie.Need-same-length
 same-length c = search needs
 
 returns : tie.Need-returns
-returns c =
-    λ old st p t lim count same h q.
-    lower-rewritten old st lim p t _ _ same _ _ _ _ _ _ (c .before .before .before .before .before .before .before .before .before .before .pre .3) count h (c .before .before .before .before .before .column .ensures) (c .before .before .before .members-of .ensures) (c .before .before .store128 .ensures) q
+returns c = λ old st p t lim count same h q. lower-rewritten old st lim p t _ _ same _ _ _ _ _ (c .before .before .before .before .before .before .before .before .pre .3) count h (c .before .before .before .before .members-at .ensures) (c .before .before .store128 .ensures) q
 
 pub rewrite-lower-spec : {M : Type 1} → statement M
-rewrite-lower-spec =
-    tie.close
-    (tie.spec
-    sub-column
-    part-column-start
-    part-column-end
-    column-requires
-    mul-store128
-    add-store128
-    members-of-requires
-    store128-requires
-    same-length
-    returns)
+rewrite-lower-spec = tie.close (tie.spec members-at-requires mul-store128 add-store128 store128-requires same-length returns)

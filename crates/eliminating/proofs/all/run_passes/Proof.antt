@@ -1,6 +1,5 @@
 -- `left` more passes may follow.
 -- Assumes nothing.
--- `left` more passes may follow.
 use borrow.Author.Needs.{needs}
 use mathlib.Core.Path.{_≡_, refl, sym, _∙_}
 use native.Mathlib.Omega.{arith}
@@ -12,30 +11,28 @@ use Rattle.model.specs.Record.{recordLength}
 use Rattle.trials.specs.Trying.{weightsIn}
 use Rattle.trials.proofs.Moving.{ready-few}
 use Rattle.eliminating.specs.Passing.{toleranceIn}
-use Rattle.eliminating.proofs.Taking.{searched-kin}
+use Rattle.eliminating.proofs.Taking.{searched-kin, ranked-kin}
 use Rattle.eliminating.proofs.Running.{Running, strikables-found, running-start, running-empty, running-last, running-more, running-out}
 use Rattle.eliminating.proofs.all.run_passes.Statement.{statement}
 use Rattle.eliminating.proofs.all.run_passes.Tie as tie
 
 abbrev Inv-loop : tie.InvT-loop
-Inv-loop rec₀ low roles users holders w t left₀ run₀ counted₀ worklist₀ rec left run counted worklist =
+Inv-loop rec₀ low roles users holders down up ends w t left₀ run₀ counted₀ worklist₀ rec left run counted worklist =
     (length rec ≡ recordLength) × Running rec₀ low users (weightsIn w) (toleranceIn t) rec run (set128 worklist) (set128 counted) left
 
 abbrev μ-loop : tie.MeasureT-loop
-μ-loop rec₀ low roles users holders w t left₀ run₀ counted₀ worklist₀ rec left run counted worklist = left
+μ-loop rec₀ low roles users holders down up ends w t left₀ run₀ counted₀ worklist₀ rec left run counted worklist = left
 
 slice-read-left : tie.Need-slice-read-left Inv-loop μ-loop
 slice-read-left c = search needs
 
 add-left : tie.Need-add-left Inv-loop μ-loop
-add-left c = let f = ready-few _ _ _ (c .before .before .before .before .before .before .pre .5 .ready) in omega arith
-
-strikable-roles-requires : tie.Need-strikable-roles-requires Inv-loop μ-loop
-strikable-roles-requires c κs = search needs
+add-left c = let f = ready-few _ _ _ (c .before .before .before .before .before .before .before .before .pre .5 .ready) in omega arith
 
 loop-holds : tie.Need-loop-holds Inv-loop μ-loop
 loop-holds c =
-    (search needs, running-start _ _ _ _ _ _ _ _ _ (c .before .before .before .before .before .before .before .before .pre .5) (strikables-found _ _ _ _ _ _ (c .before .before .before .before .before .before .before .before .pre .5 .ready) (c .before .before .before .before .before .before .before .before .pre .6) (c .strikable-roles .ensures)) refl (c .before .before .before .before .before .before .before .before .pre .9) (c .before .before .before .before .before .before .before .before .pre .10) (c .before .before .before .before .before .before .before .before .pre .11) (c .before .before .before .before .before .before .before .before .pre .12) refl)
+    let pre = c .before .before .before .before .before .before .before .before .pre in
+    (search needs, running-start _ _ _ _ _ _ _ _ _ (pre .5) (pre .16) refl (pre .9) (pre .10) (pre .11) (pre .12) refl)
 
 is-empty-requires : tie.Need-is-empty-requires Inv-loop μ-loop
 is-empty-requires c κs = search needs
@@ -52,7 +49,7 @@ pass-requires c κs =
     let inv = c .before .before .before .before .loop .inv .1 in
     let x = inv .changed in
     let y = inv .examined in
-    (c .before .before .before .before .loop .inv .0, c .before .before .before .before .before .before .before .before .before .before .before .before .before .pre .1, c .before .before .before .before .before .before .before .before .before .before .before .before .before .pre .2, c .before .before .before .before .before .before .before .before .before .before .before .before .before .pre .3, c .before .before .before .before .before .before .before .before .before .before .before .before .before .pre .4, inv .going, searched-kin _ _ _ _ (c .before .before .before .before .before .before .before .before .before .before .before .before .before .pre .6) (inv .kin), inv .strikable-now, inv .listed, c .before .before .before .before .before .before .before .before .before .before .before .before .before .pre .7, c .before .before .before .before .before .before .before .before .before .before .before .before .before .pre .8, omega arith, omega arith, inv .quality-small)
+    (c .before .before .before .before .loop .inv .0, c .before .before .before .before .before .before .before .before .before .before .before .before .before .pre .1, c .before .before .before .before .before .before .before .before .before .before .before .before .before .pre .2, c .before .before .before .before .before .before .before .before .before .before .before .before .before .pre .3, c .before .before .before .before .before .before .before .before .before .before .before .before .before .pre .4, inv .going, searched-kin _ _ _ _ (c .before .before .before .before .before .before .before .before .before .before .before .before .before .pre .6) (inv .kin), inv .strikable-now, inv .listed, c .before .before .before .before .before .before .before .before .before .before .before .before .before .pre .7, c .before .before .before .before .before .before .before .before .before .before .before .before .before .pre .8, omega arith, omega arith, inv .quality-small, c .before .before .before .before .before .before .before .before .before .before .before .before .before .pre .13, c .before .before .before .before .before .before .before .before .before .before .before .before .before .pre .14, ranked-kin _ _ _ _ _ _ (c .before .before .before .before .before .before .before .before .before .before .before .before .before .pre .15) (inv .kin))
 
 same-length-2 : tie.Need-same-length-2 Inv-loop μ-loop
 same-length-2 c =
@@ -62,8 +59,8 @@ returns-2 : tie.Need-returns-2 Inv-loop μ-loop
 returns-2 c =
     running-last _ _ _ _ _ _ _ _ _ _ (c .before .before .before .before .before .before .before .before .before .before .before .loop .inv .1) (c .before .before .before .before .before .before .before .before .before .before .loop-test .taken) (λ e. So-not (c .before .before .before .before .before .before .before .before .if1 .left) (c .before .before .before .before .before .before .before .before .before .is-empty .ensures ∙ eqb-iff _ _ .1 e)) _ _ _ (c .before .before .before .before .before .before .pass .ensures) (c .if2 .taken)
 
-strikable-roles-requires-2 : tie.Need-strikable-roles-requires-2 Inv-loop μ-loop
-strikable-roles-requires-2 c κs =
+strikable-roles-requires : tie.Need-strikable-roles-requires Inv-loop μ-loop
+strikable-roles-requires c κs =
     let l = c .before .before .before .before .before .before .before .before .before .before .before .before .before .loop .inv .0 in let k = c .before .before .before .before .before .before .before .before .pass .kept in (omega arith, c .before .before .before .before .before .before .before .before .before .before .before .before .before .before .before .before .before .before .before .before .before .before .pre .2, c .before .before .before .before .before .before .before .before .before .before .before .before .before .before .before .before .before .before .before .before .before .before .pre .4)
 
 sub-left : tie.Need-sub-left Inv-loop μ-loop
@@ -80,7 +77,7 @@ loop-again c =
     let k = c .before .before .before .before .before .before .before .before .before .pass .kept in
     let found = searched-kin _ _ _ _ (searched-kin _ _ _ _ (c .before .before .before .before .before .before .before .before .before .before .before .before .before .before .before .before .before .before .before .before .before .before .before .pre .6) (inv .kin)) (done .1) in (
       omega arith,
-      running-more _ _ _ _ _ _ _ _ _ _ inv (c .before .before .before .before .before .before .before .before .before .before .before .before .before .loop-test .taken) (λ e. So-not (c .before .before .before .before .before .before .before .before .before .before .before .if1 .left) (c .before .before .before .before .before .before .before .before .before .before .before .before .is-empty .ensures ∙ eqb-iff _ _ .1 e)) _ _ _ done (c .before .before .before .if2 .left) _ (strikables-found _ _ _ _ _ _ (done .0 .ready) found (c .strikable-roles2 .ensures)),
+      running-more _ _ _ _ _ _ _ _ _ _ inv (c .before .before .before .before .before .before .before .before .before .before .before .before .before .loop-test .taken) (λ e. So-not (c .before .before .before .before .before .before .before .before .before .before .before .if1 .left) (c .before .before .before .before .before .before .before .before .before .before .before .before .is-empty .ensures ∙ eqb-iff _ _ .1 e)) _ _ _ done (c .before .before .before .if2 .left) _ (strikables-found _ _ _ _ _ _ (done .0 .ready) found (c .strikable-roles .ensures)),
     )
 
 same-length-3 : tie.Need-same-length-3 Inv-loop μ-loop
@@ -97,7 +94,6 @@ run-passes-spec =
     μ-loop
     slice-read-left
     add-left
-    strikable-roles-requires
     loop-holds
     is-empty-requires
     same-length
@@ -105,7 +101,7 @@ run-passes-spec =
     pass-requires
     same-length-2
     returns-2
-    strikable-roles-requires-2
+    strikable-roles-requires
     sub-left
     loop-less
     loop-again

@@ -1,6 +1,5 @@
 -- The roles that are not in `todo` are taken up.
 -- Assumes nothing.
--- The roles that are not in `todo` are taken up.
 use borrow.Author.Needs.{needs}
 use mathlib.Core.Path.{_≡_, refl, sym, _∙_}
 use native.Mathlib.Omega.{arith}
@@ -16,32 +15,32 @@ use Rattle.eliminating.proofs.pass.take_up_all.Statement.{statement}
 use Rattle.eliminating.proofs.pass.take_up_all.Tie as tie
 
 abbrev Inv-loop : tie.InvT-loop
-Inv-loop rec₀ low roles users holders keys w t progress₀ list₀ todo₀ rec progress list todo =
-    (length rec ≡ recordLength) × Taking rec₀ low users keys (weightsIn w) (toleranceIn t) progress₀ (set128 todo₀) rec progress (set128 list) (set128 todo)
+Inv-loop rec₀ low roles users holders ranks w t progress₀ list₀ todo₀ top₀ rec progress list todo top =
+    (length rec ≡ recordLength) × Taking rec₀ low users ranks (weightsIn w) (toleranceIn t) progress₀ (set128 todo₀) rec progress (set128 list) (set128 todo) top
 
 abbrev μ-loop : tie.MeasureT-loop
-μ-loop rec₀ low roles users holders keys w t progress₀ list₀ todo₀ rec progress list todo = ones (set128 todo)
+μ-loop rec₀ low roles users holders ranks w t progress₀ list₀ todo₀ top₀ rec progress list todo top = ones (set128 todo)
 
 loop-holds : tie.Need-loop-holds Inv-loop μ-loop
-loop-holds c =
-    (search needs, taking-start _ _ _ _ _ _ _ _ (c .before .before .before .before .before .before .pre .6) (c .before .before .before .before .before .before .pre .8) (c .before .before .before .before .before .before .pre .13))
+loop-holds c = let pre = c .before .before .before .before .before .before .pre in (search needs, taking-start _ _ _ _ _ _ _ _ (pre .6) (pre .8) (pre .13))
 
 is-empty-requires : tie.Need-is-empty-requires Inv-loop μ-loop
 is-empty-requires c κs = search needs
 
 foremost-requires : tie.Need-foremost-requires Inv-loop μ-loop
-foremost-requires c κs = (c .before .before .before .before .before .before .before .before .before .pre .5, not-empty _ _ (c .before .is-empty .ensures) (c .if1 .taken))
+foremost-requires c κs = (c .before .before .before .before .before .before .before .before .before .pre .5, not-empty _ _ (c .before .is-empty .ensures) (c .if1 .taken), c .before .before .loop .inv .1 .small)
 
 take-up-requires : tie.Need-take-up-requires Inv-loop μ-loop
 take-up-requires c κs =
+    let pre = c .before .before .before .before .before .before .before .before .before .before .before .pre in
     let inv = c .before .before .before .before .loop .inv .1 in
-    let b = taking-bound _ _ _ _ _ _ _ _ _ _ _ _ inv in
-    let n = stand-few _ _ _ _ (c .before .before .before .before .before .before .before .before .before .before .before .pre .6 .ready) (c .before .before .before .before .before .before .before .before .before .before .before .pre .8) in
+    let b = taking-bound _ _ _ _ _ _ _ _ _ _ _ _ _ inv in
+    let n = stand-few _ _ _ _ (pre .6 .ready) (pre .8) in
     let x = b .0 in
     let y = b .1 in
-    let p = c .before .before .before .before .before .before .before .before .before .before .before .pre .11 in
-    let q = c .before .before .before .before .before .before .before .before .before .before .before .pre .12 in
-    (c .before .before .before .before .loop .inv .0, c .before .before .before .before .before .before .before .before .before .before .before .pre .1, c .before .before .before .before .before .before .before .before .before .before .before .pre .2, c .before .before .before .before .before .before .before .before .before .before .before .pre .3, c .before .before .before .before .before .before .before .before .before .before .before .pre .4, c .before .foremost .ensures .0, inv .going, searched-kin _ _ _ _ (c .before .before .before .before .before .before .before .before .before .before .before .pre .7) (inv .kin), inv .standing _ (c .before .foremost .ensures .1), c .before .before .before .before .before .before .before .before .before .before .before .pre .9, c .before .before .before .before .before .before .before .before .before .before .before .pre .10, omega arith, omega arith, inv .quality)
+    let p = pre .11 in
+    let q = pre .12 in
+    (c .before .before .before .before .loop .inv .0, pre .1, pre .2, pre .3, pre .4, c .before .foremost .ensures .0, inv .going, searched-kin _ _ _ _ (pre .7) (inv .kin), inv .standing _ (c .before .foremost .ensures .1), pre .9, pre .10, omega arith, omega arith, inv .quality)
 
 remove-requires : tie.Need-remove-requires Inv-loop μ-loop
 remove-requires c κs = search needs
@@ -51,7 +50,10 @@ loop-less c = rw (c .remove .ensures) (fewer _ _ (c .before .before .before .bef
 
 loop-again : tie.Need-loop-again Inv-loop μ-loop
 loop-again c =
-    (omega arith, taking-more _ _ _ _ _ _ _ _ _ _ _ _ (c .before .before .before .before .before .before .before .before .before .before .loop .inv .1) _ (c .before .before .before .before .before .before .before .foremost .ensures .1) (c .before .before .before .before .before .before .before .foremost .ensures .2) _ _ _ _ (c .before .before .before .before .before .take-up .ensures) (c .remove .ensures))
+    let inv = c .before .before .before .before .before .before .before .before .before .before .loop .inv in
+    let front = c .before .before .before .before .before .before .before .foremost .ensures in
+    let length-kept = c .before .before .before .before .before .take-up .kept in
+    (let l = inv .0 in omega arith, taking-more _ _ _ _ _ _ _ _ _ _ _ _ _ (inv .1) _ _ (front .1) (front .2) (front .3) _ _ _ _ (c .before .before .before .before .before .take-up .ensures) (c .remove .ensures))
 
 same-length : tie.Need-same-length Inv-loop μ-loop
 same-length c = omega arith
@@ -59,7 +61,7 @@ same-length c = omega arith
 returns : tie.Need-returns Inv-loop μ-loop
 returns c =
     let inv = c .before .before .loop .inv .1 in
-    (inv .going, inv .kin, taking-all _ _ _ _ _ _ _ _ _ _ _ _ inv (is-empty _ _ (c .before .is-empty .ensures) (c .if1 .left)), inv .listed, inv .quality)
+    (inv .going, inv .kin, taking-all _ _ _ _ _ _ _ _ _ _ _ _ _ inv (is-empty _ _ (c .before .is-empty .ensures) (c .if1 .left)), inv .listed, inv .quality)
 
 pub take-up-all-spec : {M : Type 1} → statement M
 take-up-all-spec =

@@ -1,77 +1,14 @@
--- The entries below k are filled.
+-- The seniors are the columns of the juniors, by `seniors-same`.
 -- Assumes nothing.
 use borrow.Author.Needs.{needs}
-use mathlib.Core.Path.{_≡_, refl, sym, _∙_, ap}
-use native.Mathlib.Omega.{arith}
-use Prim.Native.Nat.{ℕ, _-_, _*_, _^_, _≤_, _<_}
-use lib.ListN.{length}
-use Rattle.sets.specs.Held.{set128, set256}
-use Rattle.sets.specs.Sets.{has, subset, collect}
-use Rattle.sets.proofs.Written.{words, held128, held256}
-use Rattle.model.specs.Lists.{setAt}
-use Rattle.model.specs.Hierarchy.{Roles, candidateCount, permissionSet, authorisedUsers, immediateJuniors, directPermissions, directMembers}
-use Rattle.model.specs.Indexes.{lower}
-use Rattle.tables.specs.Tables.{Holds, Filled}
-use Rattle.tables.proofs.Tables.{filled-none, filled-more}
-use Rattle.hierarchy.specs.Tables.{Numbered, Narrow}
+use mathlib.Core.Path.{_∙_}
 use Rattle.hierarchy.proofs.Building.{seniors-same}
 use Rattle.hierarchy.proofs.fill.fill_members.Statement.{statement}
 use Rattle.hierarchy.proofs.fill.fill_members.Tie as tie
 
-abbrev Inv-loop : tie.InvT-loop
-Inv-loop users juniors standing c out₀ k₀ out k = (k ≤ c) × (length out ≡ 256) × ((ρ : Roles) → Numbered ρ → Narrow ρ → candidateCount ρ ≡ c → Holds 2 c (authorisedUsers ρ) users → set128 standing < 2 ^ c → Holds 2 c (immediateJuniors ρ (set128 standing)) juniors → Filled 2 k (directMembers ρ (set128 standing)) out₀ out)
-
-abbrev μ-loop : tie.MeasureT-loop
-μ-loop users juniors standing c out₀ k₀ out k = c - k
-
-loop-holds : tie.Need-loop-holds Inv-loop μ-loop
-loop-holds c = (search needs, search needs, λ ρ n w e h r j. filled-none 2 _ _)
-
-mul-store128 : tie.Need-mul-store128 Inv-loop μ-loop
-mul-store128 c = search needs
-
-column-requires : tie.Need-column-requires Inv-loop μ-loop
-column-requires c κs = search needs
-
-members-of-requires : tie.Need-members-of-requires Inv-loop μ-loop
-members-of-requires c κs = search needs
-
-store128-requires : tie.Need-store128-requires Inv-loop μ-loop
-store128-requires c κs = search needs
-
-add-k : tie.Need-add-k Inv-loop μ-loop
-add-k c = search needs
-
-loop-less : tie.Need-loop-less Inv-loop μ-loop
-loop-less c = search needs
-
-loop-again : tie.Need-loop-again Inv-loop μ-loop
-loop-again c =
-    let small : set128 (c .before .before .before .members-of .result) < 2 ^ 128 = search (words, held128) in
-    let room = c .before .before .before .before .before .before .before .loop .inv in
-    (search needs, omega arith, λ ρ n w e h r j. rw (c .before .before .store128 .ensures) (filled-more 2 _ _ _ (c .before .before .before .before .before .before .before .before .before .before .before .args .out .now) (c .before .before .before .before .before .before .before .loop .out) (room .2 ρ n w e h r j) (omega arith) small (c .before .before .before .members-of .ensures ρ n w (rw e h) (rw e r) (c .before .before .before .before .column .ensures ∙ seniors-same ρ _ _ _ _ e j))))
-
-same-length : tie.Need-same-length Inv-loop μ-loop
-same-length c = omega arith
-
-returns : tie.Need-returns Inv-loop μ-loop
-returns c =
-    let e : c .before .loop .k ≡ c .before .before .before .before .before .args .c = omega arith in
-    λ ρ n w same h r j. rw e at (c .before .loop .inv .2 ρ n w same h r j)
+returns : tie.Need-returns
+returns c ρ n w e h r j =
+    c .before .before .fill-direct .ensures ρ n w e h r (λ k l. c .before .before .before .before .before .before .fill-columns .ensures .0 k l ∙ seniors-same ρ _ k _ (c .before .before .before .before .before .before .before .before .before .before .before .args .juniors .now) e j)
 
 pub fill-members-spec : {M : Type 1} → statement M
-fill-members-spec =
-    tie.close
-    (tie.spec
-    Inv-loop
-    μ-loop
-    loop-holds
-    mul-store128
-    column-requires
-    members-of-requires
-    store128-requires
-    add-k
-    loop-less
-    loop-again
-    same-length
-    returns)
+fill-members-spec = tie.close (tie.spec (λ c. search needs) (λ c κs. search needs) (λ c. search needs) (λ c κs. search needs) (λ c. search needs) returns)

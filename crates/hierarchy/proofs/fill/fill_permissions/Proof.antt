@@ -1,16 +1,13 @@
 -- The entries below k are filled.
 -- Assumes nothing.
 use borrow.Author.Needs.{needs}
-use mathlib.Core.Path.{_≡_, refl, sym, _∙_, ap}
+use mathlib.Core.Path.{_≡_, _∙_}
 use native.Mathlib.Omega.{arith}
-use Prim.Native.Nat.{ℕ, _-_, _*_, _^_, _≤_, _<_}
+use Prim.Native.Nat.{_-_, _^_, _≤_, _<_}
 use lib.ListN.{length}
 use Rattle.sets.specs.Held.{set128, set256}
-use Rattle.sets.specs.Sets.{has, subset, collect}
-use Rattle.sets.proofs.Written.{words, held128, held256}
-use Rattle.model.specs.Lists.{setAt}
-use Rattle.model.specs.Hierarchy.{Roles, candidateCount, permissionSet, authorisedUsers, immediateJuniors, directPermissions, directMembers}
-use Rattle.model.specs.Indexes.{lower}
+use Rattle.sets.proofs.Written.{words, held256}
+use Rattle.model.specs.Hierarchy.{Roles, candidateCount, permissionSet, immediateJuniors, directPermissions}
 use Rattle.tables.specs.Tables.{Holds, Filled}
 use Rattle.tables.proofs.Tables.{filled-none, filled-more}
 use Rattle.hierarchy.specs.Tables.{Numbered, Narrow}

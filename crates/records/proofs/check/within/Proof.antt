@@ -1,7 +1,11 @@
--- Each limit by its own test.
+-- The two tests, one after the other.
 -- Assumes nothing.
 use borrow.Author.Needs.{needs}
-use Rattle.records.proofs.Judging.{few-users, many-users, few-permissions, many-permissions, limits-kept}
+use borrow.Author.Tests.{not-false}
+use mathlib.Core.Path.{sym, _∙_}
+use native.Mathlib.Omega.{arith}
+use Rattle.model.proofs.Record.{withinLimits-iff}
+use Rattle.records.proofs.Judging.{first-fails, first-holds}
 use Rattle.records.proofs.check.within.Statement.{statement}
 use Rattle.records.proofs.check.within.Tie as tie
 
@@ -11,23 +15,21 @@ shared-slice-read-n c = search needs
 shared-slice-read-m : tie.Need-shared-slice-read-m
 shared-slice-read-m c = search needs
 
+limits-kept-requires : tie.Need-limits-kept-requires
+limits-kept-requires c κs = search needs
+
 returns : tie.Need-returns
-returns c = few-users _ _ _ (c .if1 .taken)
-
-returns-2 : tie.Need-returns-2
-returns-2 c = many-users _ _ _ (c .if2 .taken)
-
-returns-3 : tie.Need-returns-3
-returns-3 c = few-permissions _ _ _ (c .if3 .taken)
-
-returns-4 : tie.Need-returns-4
-returns-4 c = many-permissions _ _ _ (c .if4 .taken)
+returns c = first-fails _ _ _ (c .before .limits-kept .ensures) (c .if1 .taken)
 
 rows-within-requires : tie.Need-rows-within-requires
-rows-within-requires c κs = search needs
+rows-within-requires c κs =
+    let k = withinLimits-iff _ _ .0 (sym (c .before .limits-kept .ensures) ∙ not-false _ (c .if1 .left)) in
+    let a = k .1 in
+    let b = k .3 in
+    (omega arith, omega arith)
 
-returns-5 : tie.Need-returns-5
-returns-5 c = limits-kept _ _ _ _ (c .before .before .before .before .if1 .left) (c .before .before .before .if2 .left) (c .before .before .if3 .left) (c .before .if4 .left) (c .rows-within .ensures)
+returns-2 : tie.Need-returns-2
+returns-2 c = first-holds _ _ _ _ (c .before .before .limits-kept .ensures) (c .before .if1 .left) (c .rows-within .ensures)
 
 pub within-spec : {M : Type 1} → statement M
 within-spec =
@@ -35,9 +37,7 @@ within-spec =
     (tie.spec
     shared-slice-read-n
     shared-slice-read-m
+    limits-kept-requires
     returns
-    returns-2
-    returns-3
-    returns-4
     rows-within-requires
-    returns-5)
+    returns-2)

@@ -1,17 +1,13 @@
--- `Set128::insert` meets its contract, by `insert-words` at two words.
+-- `Set128::insert` meets its contract, by `with-only`.
 -- Assumes nothing.
 use borrow.Author.Needs.{needs}
-use Rattle.sets.specs.Held.{set128}
-use Rattle.sets.proofs.Written.{words, insert-words}
+use mathlib.Core.Path.{_∙_}
+use Rattle.sets.proofs.Written.{with-only}
 use Rattle.sets.proofs.set128.Set128.insert.Statement.{statement}
 use Rattle.sets.proofs.set128.Set128.insert.Tie as tie
 
 returns : tie.Need-returns
-unfolding set128
-returns c =
-    let a = c .before .before .before .args in
-    let p = c .before .before .place-of .ensures in
-    rw (c .with-word .ensures, c .before .word .ensures, p .0, p .1) (insert-words 2 (a .self .words) (search words) (a .i))
+returns c = rw (c .before .only .ensures) at (c .union .ensures) ∙ with-only _ (c .before .before .args .i) 128
 
 pub insert-spec : {M : Type 1} → statement M
-insert-spec = tie.close (tie.spec (λ c. search needs) (λ c. search needs) (λ c. search needs) (λ c. search needs) returns)
+insert-spec = tie.close (tie.spec (λ c κs. search needs) (λ c κs. search needs) returns)

@@ -1,17 +1,13 @@
--- `Set128::remove` meets its contract, by `remove-words` at two words.
+-- `Set128::remove` meets its contract, by `without-only`.
 -- Assumes nothing.
 use borrow.Author.Needs.{needs}
-use Rattle.sets.specs.Held.{set128}
-use Rattle.sets.proofs.Written.{words, remove-words}
+use mathlib.Core.Path.{_∙_}
+use Rattle.sets.proofs.Written.{words, held128, without-only}
 use Rattle.sets.proofs.set128.Set128.remove.Statement.{statement}
 use Rattle.sets.proofs.set128.Set128.remove.Tie as tie
 
 returns : tie.Need-returns
-unfolding set128
-returns c =
-    let a = c .before .before .before .args in
-    let p = c .before .before .place-of .ensures in
-    rw (c .with-word .ensures, c .before .word .ensures, p .0, p .1) (remove-words 2 (a .self .words) (search words) (a .i))
+returns c = rw (c .before .only .ensures) at (c .difference .ensures) ∙ without-only _ _ 128 (search (words, held128))
 
 pub remove-spec : {M : Type 1} → statement M
-remove-spec = tie.close (tie.spec (λ c. search needs) (λ c. search needs) (λ c. search needs) (λ c. search needs) returns)
+remove-spec = tie.close (tie.spec (λ c κs. search needs) (λ c κs. search needs) returns)

@@ -1,16 +1,12 @@
--- `Set256::is_subset` meets its contract, by `subset-words` at four words.
+-- `Set256::is_subset` meets its contract, by `subset-test`.
 -- Assumes nothing.
 use borrow.Author.Needs.{needs}
-use Rattle.sets.specs.Held.{set256}
-use Rattle.sets.proofs.Written.{words, subset-words}
+use Rattle.sets.proofs.Written.{subset-test}
 use Rattle.sets.proofs.set256.Set256.is_subset.Statement.{statement}
 use Rattle.sets.proofs.set256.Set256.is_subset.Tie as tie
 
 returns : tie.Need-returns
-unfolding set256
-returns c = subset-words 4 _ _ (search words) (search words)
+returns c = subset-test _ _ _ _ (c .is-empty .ensures) (c .before .difference .ensures)
 
 pub is-subset-spec : {M : Type 1} → statement M
-is-subset-spec =
-    tie.close (tie.spec (λ c. search needs) (λ c. search needs) (λ c. search needs) (λ c. search needs) (λ c. search needs) (λ c. search needs)
-    (λ c. search needs) (λ c. search needs) returns)
+is-subset-spec = tie.close (tie.spec (λ c κs. search needs) (λ c κs. search needs) returns)

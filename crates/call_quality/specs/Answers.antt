@@ -1,0 +1,7 @@
+-- The answer in the form in which the model gives it.
+-- Assumes nothing.
+use Rattle.model.specs.Calls.{Told}
+use Rattle.call_quality.specs.declared.QualityAnswer.{QualityAnswer}
+
+unfoldable pub qualityTold : QualityAnswer → Told
+qualityTold r = record { code = r .code; value = r .quality }

@@ -1,0 +1,41 @@
+ghost use mathlib.Core.Path.{_≡_};
+ghost use Rattle.model.specs.Calls.{qualityOf};
+ghost use Rattle.reading.specs.Reading.{weightsOf};
+ghost use Rattle.call_quality.specs.Answers.{qualityTold};
+use reading::count_rows;
+use reading::weigh;
+use reading::weights_allowed;
+use records::record_sound;
+use tables::LENGTH;
+
+// The refusal's number, or 0, and beside 0 the quality.
+#[repr(C)]
+pub struct QualityAnswer {
+    pub code: u64,
+    pub quality: u64,
+}
+
+fn refused(code: u64) -> QualityAnswer
+    ensures { λ r. ⌜ (r .code ≡ code) × (r .quality ≡ 0) ⌝ }
+{
+    QualityAnswer { code, quality: 0 }
+}
+
+// The quality of the record's roles for these weights: of the roles, direct members, direct permissions and links.
+pub fn panel_quality(rec: &[u64], w1: u64, w2: u64, w3: u64, w4: u64) -> QualityAnswer
+    ensures { λ r. ⌜ qualityTold r ≡ qualityOf (now (rec .entry)) (weightsOf w1 w2 w3 w4) ⌝ }
+{
+    if rec.len() != LENGTH {
+        return refused(1);
+    }
+    if !record_sound(rec) {
+        return refused(5);
+    }
+    if !weights_allowed(w1, w2, w3, w4) {
+        return refused(9);
+    }
+    QualityAnswer {
+        code: 0,
+        quality: weigh(count_rows(rec), w1, w2, w3, w4),
+    }
+}

@@ -1,0 +1,2 @@
+pub mod Gathering
+mod Shuffling

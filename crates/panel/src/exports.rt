@@ -1,0 +1,85 @@
+// The outside calls, as they are exported. Each is the call of the same name in a crate of its own, with the same promise.
+ghost use mathlib.Core.Path.{_≡_};
+ghost use Rattle.model.specs.Calls.{mine, edit, qualityOf, mayOf};
+ghost use Rattle.model.specs.Machine.Call.{strike, restore, eliminate, review};
+ghost use Rattle.reading.specs.Reading.{weightsOf};
+ghost use Rattle.crewtext.specs.Reader.{given, readCrew};
+ghost use Rattle.call_mine.specs.Answers.{mined};
+ghost use Rattle.call_strike.specs.Answers.{struck};
+ghost use Rattle.call_restore.specs.Answers.{restored};
+ghost use Rattle.call_eliminate.specs.Answers.{eliminateGiven, toleranceOf};
+ghost use Rattle.call_review.specs.Answers.{reviewGiven};
+ghost use Rattle.call_quality.specs.Answers.{qualityTold};
+ghost use Rattle.call_may.specs.Answers.{mayTold};
+use call_eliminate::EliminateAnswer;
+use call_may::MayAnswer;
+use call_mine::MineAnswer;
+use call_quality::QualityAnswer;
+use call_restore::RestoreAnswer;
+use call_review::ReviewAnswer;
+use call_strike::StrikeAnswer;
+use crewtext::CrewRead;
+
+#[no_mangle]
+pub extern "C" fn panel_mine(n: u64, m: u64, crew: &[u64], rec: &mut [u64]) -> MineAnswer
+    ensures { λ r. ⌜ mined r (now (rec .exit)) ≡ mine n m (now (crew .entry)) (now (rec .entry)) ⌝ }
+{
+    call_mine::panel_mine(n, m, crew, rec)
+}
+
+#[no_mangle]
+pub extern "C" fn panel_strike(rec: &mut [u64], k: u64) -> StrikeAnswer
+    ensures { λ r. ⌜ struck r (now (rec .exit)) ≡ edit (now (rec .entry)) (strike k) ⌝ }
+{
+    call_strike::panel_strike(rec, k)
+}
+
+#[no_mangle]
+pub extern "C" fn panel_restore(rec: &mut [u64], k: u64) -> RestoreAnswer
+    ensures { λ r. ⌜ restored r (now (rec .exit)) ≡ edit (now (rec .entry)) (restore k) ⌝ }
+{
+    call_restore::panel_restore(rec, k)
+}
+
+#[no_mangle]
+pub extern "C" fn panel_eliminate(
+    rec: &mut [u64],
+    w1: u64,
+    w2: u64,
+    w3: u64,
+    w4: u64,
+    a: u64,
+    b: u64,
+) -> EliminateAnswer
+    ensures { λ r. ⌜ eliminateGiven r (now (rec .exit)) ≡ edit (now (rec .entry)) (eliminate (weightsOf w1 w2 w3 w4) (toleranceOf a b)) ⌝ }
+{
+    call_eliminate::panel_eliminate(rec, w1, w2, w3, w4, a, b)
+}
+
+#[no_mangle]
+pub extern "C" fn panel_review(rec: &mut [u64], w1: u64, w2: u64, w3: u64, w4: u64) -> ReviewAnswer
+    ensures { λ r. ⌜ reviewGiven r (now (rec .exit)) ≡ edit (now (rec .entry)) (review (weightsOf w1 w2 w3 w4)) ⌝ }
+{
+    call_review::panel_review(rec, w1, w2, w3, w4)
+}
+
+#[no_mangle]
+pub extern "C" fn panel_quality(rec: &[u64], w1: u64, w2: u64, w3: u64, w4: u64) -> QualityAnswer
+    ensures { λ r. ⌜ qualityTold r ≡ qualityOf (now (rec .entry)) (weightsOf w1 w2 w3 w4) ⌝ }
+{
+    call_quality::panel_quality(rec, w1, w2, w3, w4)
+}
+
+#[no_mangle]
+pub extern "C" fn panel_may(rec: &[u64], u: u64, p: u64) -> MayAnswer
+    ensures { λ r. ⌜ mayTold r ≡ mayOf (now (rec .entry)) u p ⌝ }
+{
+    call_may::panel_may(rec, u, p)
+}
+
+#[no_mangle]
+pub extern "C" fn panel_read_crew(text: &[u8], rows: &mut [u64]) -> CrewRead
+    ensures { λ r. ⌜ given r (now (rows .exit)) ≡ readCrew (now (text .entry)) (now (rows .entry)) ⌝ }
+{
+    crewtext::read_crew(text, rows)
+}
