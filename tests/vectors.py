@@ -46,6 +46,7 @@ def set_cases(rng):
             fields = [int(i in a), len(a), len(b), min(a, default="-"), max(b, default="-"), int(a < b),
                       int(sum(2 ** j for j in a) < sum(2 ** j for j in b))]
             lines.append("%d %d: %s\n" % (width, i, " ".join(map(str, fields))))
+    lines.append("apart: %d\n" % (not (set(range(200)) - set(range(100))) & set(range(100))))
     return {"stdout": "".join(lines).encode("ascii")}
 
 
@@ -122,16 +123,25 @@ def worked_cases(rng):
 
 
 class Script:
-    """A script for the program `replay`, made beside what the model answers to it. The record goes from command to command."""
+    """A script for the program `replay`, made beside what the model answers to it. The record goes from command to command; `beyond` are the
+    program's words that are not lent."""
 
     def __init__(self):
-        self.record = [0xaaaaaaaaaaaaaaaa] * model.LENGTH
+        self.record, self.beyond = [0xaaaaaaaaaaaaaaaa] * model.LENGTH, [0xaaaaaaaaaaaaaaaa]
         self.stdin, self.lines, self.calls = [], [], 0
 
-    def command(self, name, numbers, answer):
+    def line(self, name, numbers):
         self.stdin.append(name + "".join(" %016x" % number for number in numbers) + "\n")
+
+    def command(self, name, numbers, answer):
+        self.line(name, numbers)
         self.lines.append(" ".join([name, *map(str, answer), "%016x" % worked.digest(self.record)]) + "\n")
         self.calls += name != "d"
+
+    def lend(self, count):
+        words = self.record + self.beyond
+        self.record, self.beyond = words[:count], words[count:]
+        self.line("w", [count])
 
     def call(self, name, numbers, answer):
         *answer, self.record = answer
@@ -157,6 +167,25 @@ class Script:
 
     def may(self, u, p):
         self.call("a", [u, p], model.may(self.record, u, p))
+
+    def serve(self, n, m, words, calls, answers=None, kinds=None):
+        """A list of calls [(kind, numbers ..)] in one go: seven words to a call and three to an answer. `answers` may be another count of these,
+        and `kinds` other kinds than the calls have, neither of which can be read."""
+        names = ["strike", "restore", "eliminate", "review"]
+        encoded = []
+        for i, (kind, *numbers) in enumerate(calls):
+            flat = [x for number in numbers for x in (number if isinstance(number, (list, tuple)) else [number])]
+            encoded += ([kinds[i] if kinds else names.index(kind), *flat] + [i] * 6)[:7]  # words that a kind does not name are not looked at
+        count = 3 * len(calls) if answers is None else answers
+        out, told = [7] * count, (0, 0)
+        if count == 3 * len(calls) and not kinds:
+            code, candidates, record = model.mine(n, m, words, self.record)
+            told = (1, code) if code else (2, candidates)
+            for i, (kind, *numbers) in enumerate([] if code else calls):
+                *answer, record = getattr(model, kind)(record, *numbers)
+                out[3 * i:3 * i + 3] = (answer + [0, 0])[:3]
+            self.record = record
+        self.command("l", [n, m, len(words), len(encoded), count, *words, *encoded], [*told, *out])
 
     def damage(self, place, value):
         self.record[place] = value
@@ -277,10 +306,56 @@ def worst_lists(script, rng):
     script.review(ones)
 
 
+def other_lengths(script):
+    """Records that are a word short, a word long, and empty: every call is refused with 1, before anything else."""
+    words = model.crew_words([3, 6, 7])
+    script.mine(3, 3, words)
+    for count in (model.LENGTH - 1, model.LENGTH + 1, 0, 1):
+        script.lend(count)
+        script.mine(3, 3, words)
+        script.mine(0, 3, words)
+        script.strike(0)
+        script.strike(9)
+        script.restore(0)
+        script.eliminate([1, 1, 1, 1], 1, 1)
+        script.eliminate([1001, 1, 1, 1], 0, 0)
+        script.review([1, 1, 1, 1])
+        script.quality([1001, 1, 1, 1])
+        script.may(0, 0)
+        script.may(9, 9)
+        script.serve(3, 3, words, [("strike", 0)])
+    script.lend(model.LENGTH)
+    script.strike(0)
+
+
+def served_lists(script, rng):
+    """Whole lists in one go, as condition 3 speaks of them: those of guards.py, random ones, those that can't be read, and refused crews."""
+    for guard in guards.GUARDS:
+        calls = [call for call in guard["calls"] if call[0] in ("strike", "restore", "eliminate", "review")]
+        script.serve(len(guard["rows"]), guard["m"], model.crew_words(guard["rows"]), calls)
+    for _ in range(40):
+        n, m, rows = crews.random_sparse(rng, rng.randrange(2, 12), rng.randrange(3, 70)) if rng.random() < 0.5 else crews.random_dense(rng, rng.randrange(2, 6), rng.randrange(3, 10))
+        crew = model.crew_of(n, m, rows)
+        calls = []
+        for _ in range(rng.randrange(0, 25)):
+            k = rng.randrange((crew.c if crew else 4) + 1)
+            calls.append(rng.choice((("strike", k), ("strike", k), ("restore", k), ("restore", k), ("eliminate", weights_of(rng), *tolerance_of(rng)), ("review", weights_of(rng)))))
+        script.serve(n, m, model.crew_words(rows), calls)
+    words, calls = model.crew_words([3, 6, 7]), [("strike", 0), ("restore", 0)]
+    for answers in (0, 3, 5, 7, 9):
+        script.serve(3, 3, words, calls, answers)
+    for kind in (4, 5, 2 ** 63, 2 ** 64 - 1):
+        script.serve(3, 3, words, calls, kinds=[0, kind])
+    script.serve(0, 3, [], calls)
+    script.serve(1, 3, [8, 0, 0, 0], calls)
+    script.serve(8, 8, model.crew_words(crews.lacking_one(8)[2]), calls)
+    script.serve(3, 3, words, [])
+
+
 @target("replay")
 def replay(rng):
     """Lists of strikes, restorations, eliminations and reviews, good and refused, with the two calls that read and damaged records in between; then
-    the lists of guards.py and the worst ones. The last line but one can't be read, so the strike after it is not made."""
+    the lists of guards.py, the worst ones, records of other lengths, and lists served in one go. The last line but one can't be read, so the strike after it is not made."""
     script = Script()
 
     def role(wanted, standing=None):
@@ -344,6 +419,8 @@ def replay(rng):
     guard_lists(script)
     refused_weights(script)
     worst_lists(script, rng)
+    other_lengths(script)
+    served_lists(script, rng)
     stdin = "".join(script.stdin) + "s 000000000000000g\n" + "s %016x\n" % 0
     assert script.calls >= 2000 and len(stdin) < 2 * 10 ** 6
     return {"stdin": stdin.encode("ascii"), "stdout": ("".join(script.lines) + "unreadable\n").encode("ascii")}
@@ -373,7 +450,9 @@ def listing_cases(rng):
         texts.append(bytes(text))
     lines = [model.lister(text) for text in texts]
     assert len(texts) >= 100 and {b"refused,%d\n" % code for code in (2, 3, 4, 10)} == {line for line in lines if line.startswith(b"refused")}
-    return {"stdin": b"".join(b"%04x\n%s" % (len(text), text) for text in texts), "stdout": b"".join(lines)}
+    files = {"data/%03d" % number: text for number, text in enumerate(texts)}
+    files["stdout"] = b"".join(b"%03d\n%s" % (number, line) for number, line in enumerate(lines))
+    return files
 
 
 @target("lister")
@@ -388,7 +467,11 @@ def main():
     checking = sys.argv[1:] == ["--check"]
     if sys.argv[1:] and not checking:
         sys.exit("usage: vectors.py [--check]")
-    for path, content in generate().items():
+    files = generate()
+    for file in (ROOT / "crates").glob("*/data/*"):
+        if file.relative_to(ROOT) not in files:
+            sys.exit("%s is not one that tests/vectors.py makes" % file.relative_to(ROOT))
+    for path, content in files.items():
         file = ROOT / path
         if not checking:
             file.parent.mkdir(parents=True, exist_ok=True)

@@ -98,7 +98,8 @@ def main():
             return
         lines = ["digraph roles {", "  node [shape=box];"]
         for k, (_, direct, members, juniors) in roles.items():
-            label = "\\n".join(["role %d" % k, ", ".join(map(person, items(members)))] + rights(direct)).replace('"', "'")
+            persons = [", ".join(map(person, items(members)))] if members else []
+            label = "\\n".join(["role %d" % k] + persons + rights(direct)).replace('"', "'")
             lines.append('  %d [label="%s"];' % (k, label))
             lines += ["  %d -> %d;" % (k, j) for j in items(juniors)]
         made = subprocess.run(["dot", "-Tsvg", "-o", sys.argv[2]], input="\n".join(lines + ["}", ""]), text=True)

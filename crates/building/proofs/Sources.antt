@@ -1,8 +1,8 @@
 -- What the tables of a state within the limits give to the functions that read them.
 -- Assumes nothing.
-use mathlib.Core.Path.{_≡_, refl, sym, _∙_, ap, subst}
-use mathlib.Core.Bool.{Bool, true, false, So}
-use mathlib.Core.Logic.{_↔_, _≢_, _⊎_, ⊎-elim}
+use mathlib.Core.Path.{_≡_, sym, _∙_, ap}
+use mathlib.Core.Bool.{So}
+use mathlib.Core.Logic.{_≢_}
 use mathlib.Core.List.{List}
 use Prim.Native.Nat.{ℕ, _+_, _*_, _^_, _≤_, _<_}
 use native.Mathlib.Nat.{lt-of-lt-of-le, lt-irrefl, le-trans, mul-le-mul-left}
@@ -14,14 +14,14 @@ use Rattle.sets.specs.Truth.{if_then_else_}
 use Rattle.sets.specs.Sets.{has, _∪_, single, subset, collect}
 use Rattle.sets.proofs.Truth.{either, ltb-iff, if-true}
 use Rattle.sets.proofs.Items.{same-set, item-below}
-use Rattle.sets.proofs.Order.{collect-iff, collect-same, proper-iff, subset-iff}
+use Rattle.sets.proofs.Order.{collect-iff, proper-iff}
 use Rattle.sets.proofs.Words.{word-zero}
 use Rattle.model.specs.Lists.{setAt, rowsAt}
-use Rattle.model.specs.Candidates.{candidates, Listed}
-use Rattle.model.specs.Hierarchy.{Roles, candidateCount, permissionSet, authorisedUsers, immediateJuniors, directPermissions, directMembers}
+use Rattle.model.specs.Candidates.{candidates}
+use Rattle.model.specs.Hierarchy.{candidateCount, permissionSet, authorisedUsers, immediateJuniors, directPermissions, directMembers}
 use Rattle.model.specs.Indexes.{lower, rolesOfUser}
 use Rattle.model.specs.State.{State, rolesOf}
-use Rattle.model.proofs.Growing.{Growing, growing-place, listed-at}
+use Rattle.model.proofs.Growing.{growing-place, listed-at}
 use Rattle.model.proofs.Candidates.{candidates-growing, candidates-table, proper-lower, row-candidate, candidate-bound}
 use Rattle.model.proofs.Lists.{length-rowsAt, getD-rowsAt, setAt-words}
 use Rattle.model.proofs.Reading.{user-iff}
@@ -53,7 +53,7 @@ narrow st lim =
       inside = λ k l. candidate-bound (st .rows) (2 ^ st .permissions) (λ u lu. lim .rows-below u (rw (lim .rows-count) at lu)) (getD (candidates (st .rows)) k 0) (listed-at (candidates (st .rows)) k l);
     }
 
-nonempty : (st : State) (k : ℕ) → k < candidateCount (rolesOf st) → permissionSet (rolesOf st) k ≢ 0
+pub nonempty : (st : State) (k : ℕ) → k < candidateCount (rolesOf st) → permissionSet (rolesOf st) k ≢ 0
 unfolding candidateCount permissionSet rolesOf
 nonempty st k l = candidates-table (st .rows) .nonempty (getD (candidates (st .rows)) k 0) (listed-at (candidates (st .rows)) k l)
 
@@ -95,17 +95,22 @@ module _ (st : State) (crew : List ℕ) (at n : ℕ) (table : List ℕ) (c : ℕ
         let same : getD (rowsAt c table 0) (r .place) 0 ≡ x = ap (λ (xs : List ℕ). getD xs (r .place) 0) (sym (src .sets)) ∙ r .there ∙ sym own in
         either (r .place) i (λ l. lt-irrefl x (rw same at (b .before (r .place) l))) (λ l. lt-irrefl x (rw same at (b .after (r .place) l lk)))
 
-    pub own-found : (low : List ℕ) → Holds 2 (candidateCount (rolesOf st)) (lower (rolesOf st)) low → (e s r : ℕ) → e < c → getD (rowsAt c table 0) e 0 ≡ x
-        → s ≡ setAt 2 low (2 * e) → r ≡ (if ltb e 128 then s ∪ single e else s) → r ≡ rolesOfUser (rolesOf st) u
-    unfolding rolesOf
-    own-found low h e s r le found es er =
-        let ρ = rolesOf st in
-        let lc : e < candidateCount ρ = rw source-count le in
-        let small : e < 128 = lt-of-lt-of-le lc (src .limits .candidates-most) in
-        let z : 0 + 4 * e ≡ 4 * e = omega arith in
-        let role : permissionSet ρ e ≡ getD (st .rows) u 0 = sym (source-set e le) ∙ ap (setAt 4 table) (sym z) ∙ sym (getD-rowsAt c table 0 e le) ∙ found ∙ own in
-        er ∙ if-true (ltb e 128) (s ∪ single e) s (ltb-iff e 128 .1 small) ∙ ap (λ (y : ℕ). y ∪ single e) (es ∙ h e lc)
-        ∙ sym (user-own ρ u e (numbered st (src .limits) .distinct) user-in lc role)
+    -- the role that a search finds is the user's own
+    module _ (e : ℕ) (le : e < c) (found : getD (rowsAt c table 0) e 0 ≡ x) where
+      pub own-role : permissionSet (rolesOf st) e ≡ getD (st .rows) u 0
+      own-role =
+          let z : 0 + 4 * e ≡ 4 * e = omega arith in
+          sym (source-set e le) ∙ ap (setAt 4 table) (sym z) ∙ sym (getD-rowsAt c table 0 e le) ∙ found ∙ own
+
+      pub own-found : (low : List ℕ) → setAt 2 low (2 * e) ≡ lower (rolesOf st) e → (s r : ℕ)
+          → s ≡ setAt 2 low (2 * e) → r ≡ (if ltb e 128 then s ∪ single e else s) → r ≡ rolesOfUser (rolesOf st) u
+      unfolding rolesOf
+      own-found low entry s r es er =
+          let ρ = rolesOf st in
+          let lc : e < candidateCount ρ = rw source-count le in
+          let few : e < 128 = lt-of-lt-of-le lc (src .limits .candidates-most) in
+          er ∙ if-true (ltb e 128) (s ∪ single e) s (ltb-iff e 128 .1 few) ∙ ap (λ (y : ℕ). y ∪ single e) (es ∙ entry)
+          ∙ sym (user-own ρ u e (numbered st (src .limits) .distinct) user-in lc own-role)
 
   -- ---- the indexes
 
@@ -133,7 +138,7 @@ module _ (st : State) (crew : List ℕ) (at n : ℕ) (table : List ℕ) (c : ℕ
       (b, rw (source-set j lj, source-set k lk) (proper-iff (permissionSet ρ j) (permissionSet ρ k) .0 (a .1) .0)))
 
   -- the users of a role are a column of the roles of the users
-  pub users-found : (roles : List ℕ) → Holds 2 n (rolesOfUser (rolesOf st)) roles → (k : ℕ) → k < c
+  users-found : (roles : List ℕ) → Holds 2 n (rolesOfUser (rolesOf st)) roles → (k : ℕ) → k < c
       → collect n (λ u. has (setAt 2 roles (2 * u)) k) ≡ authorisedUsers (rolesOf st) k
   unfolding rolesOf
   users-found roles h k lk =
@@ -146,20 +151,18 @@ module _ (st : State) (crew : List ℕ) (at n : ℕ) (table : List ℕ) (c : ℕ
       let lu : u < n = rw (src .users) at (user-iff ρ k u .0 t .0) in
       collect-iff n (λ u. has (setAt 2 roles (2 * u)) k) u .1 (lu, rw (h u lu) (rolesOfUser-iff ρ u k .1 (rw source-count lk, t))))
 
-  pub indexed : (low roles users : List ℕ)
-      → Holds 2 c (λ k. collect k (λ j. subset (setAt 4 table (4 * j)) (setAt 4 table (4 * k)))) low
-      → Holds 2 n (rolesOfUser (rolesOf st)) roles
-      → Holds 2 c (λ k. collect n (λ u. has (setAt 2 roles (2 * u)) k)) users → Indexed st low roles users
+  pub users-held : (roles users : List ℕ) → Holds 2 n (rolesOfUser (rolesOf st)) roles → Holds 2 c (λ k. collect n (λ u. has (setAt 2 roles (2 * u)) k)) users
+      → Holds 2 c (authorisedUsers (rolesOf st)) users
+  users-held roles users hr hu k l = hu k l ∙ users-found roles hr k l
+
+  pub indexed : (low roles users : List ℕ) → Holds 2 c (lower (rolesOf st)) low → Holds 2 n (rolesOfUser (rolesOf st)) roles
+      → Holds 2 c (authorisedUsers (rolesOf st)) users → Indexed st low roles users
   indexed low roles users hl hr hu =
       record {
-        low-ones = λ k l. let lk : k < c = rw source-count at l in hl k lk ∙ low-found k lk;
+        low-ones = λ k l. hl k (rw source-count at l);
         user-roles = λ u l. hr u (rw (src .users) at l);
-        role-users = λ k l. let lk : k < c = rw source-count at l in hu k lk ∙ users-found roles hr k lk;
+        role-users = λ k l. hu k (rw source-count at l);
       }
-
-  pub low-held : (low : List ℕ) → Holds 2 c (λ k. collect k (λ j. subset (setAt 4 table (4 * j)) (setAt 4 table (4 * k)))) low
-      → Holds 2 (candidateCount (rolesOf st)) (lower (rolesOf st)) low
-  low-held low hl k l = let lk : k < c = rw source-count at l in hl k lk ∙ low-found k lk
 
 -- words that are zero hold the empty set
 pub setAt-zero : (w : ℕ) (ws : List ℕ) (at : ℕ) → ((j : ℕ) → j < w → getD ws (at + j) 0 ≡ 0) → setAt w ws at ≡ 0

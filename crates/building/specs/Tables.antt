@@ -1,12 +1,16 @@
 -- The tables of a state: what each holds. All have an entry to a role or a user, 4 words to a set of permissions, 2 to any other.
 -- Assumes nothing.
 use mathlib.Core.Path.{_≡_}
+use mathlib.Core.Bool.{So}
+use mathlib.Core.Logic.{_⊎_}
 use mathlib.Core.List.{List}
 use Prim.Native.Nat.{ℕ, _*_, _<_}
 use lib.ListN.{length, getD}
-use Rattle.model.specs.Lists.{rowsAt}
+use Rattle.sets.specs.Truth.{_implies_, all}
+use Rattle.sets.specs.Sets.{has, collect}
+use Rattle.model.specs.Lists.{setAt, rowsAt}
 use Rattle.model.specs.Candidates.{candidates}
-use Rattle.model.specs.Hierarchy.{authorisedUsers, immediateJuniors, directPermissions, directMembers, candidateCount}
+use Rattle.model.specs.Hierarchy.{authorisedUsers, immediateJuniors, directPermissions, directMembers, candidateCount, permissionSet}
 use Rattle.model.specs.Indexes.{lower, rolesOfUser}
 use Rattle.model.specs.State.{State, rolesOf}
 use Rattle.model.proofs.Record.{Limits}
@@ -18,6 +22,17 @@ pub record Source (st : State) (crew : List ℕ) (at n : ℕ) (table : List ℕ)
   pub users : st .users ≡ n
   pub rows : st .rows ≡ rowsAt n crew at
   pub sets : candidates (st .rows) ≡ rowsAt c table 0
+
+-- the own roles met among the first n users: `roles` are some users' rows, and have their lower candidates in `low`; `users` has such a user for
+-- each of them
+pub record Owned (st : State) (n : ℕ) (low : List ℕ) (roles users : ℕ) : Type 0 where
+  pub entries : (e : ℕ) → So (has roles e) → (e < candidateCount (rolesOf st)) × (setAt 2 low (2 * e) ≡ lower (rolesOf st) e)
+  pub spoken : (e : ℕ) → So (has roles e) → (v : ℕ) × So (has users v) × (v < st .users) × (getD (st .rows) v 0 ≡ permissionSet (rolesOf st) e)
+  pub passed : (u : ℕ) → u < n → (getD (st .rows) u 0 ≡ 0) ⊎ ((e : ℕ) × So (has roles e) × (permissionSet (rolesOf st) e ≡ getD (st .rows) u 0))
+
+-- the items that all of the sets us of a table have
+unfoldable pub sharedBy : List ℕ → ℕ → ℕ
+sharedBy ws us = collect 128 (λ j. all 128 (λ u. has us u implies has (setAt 2 ws (2 * u)) j))
 
 -- the indexes: the lower candidates of each role, the roles of each user, the users of each role
 pub record Indexed (st : State) (low roles users : List ℕ) : Type 0 where

@@ -1,7 +1,7 @@
 // All tables of a state.
 ghost use mathlib.Core.Path.{_≡_};
-ghost use Prim.Native.Nat.{ℕ, _+_, _*_, _≤_, _<_};
-ghost use lib.ListN.{length, getD};
+ghost use Prim.Native.Nat.{_+_, _*_, _≤_};
+ghost use lib.ListN.{length};
 ghost use Rattle.sets.specs.Held.{set128};
 ghost use Rattle.model.specs.Lists.{rowsAt};
 ghost use Rattle.model.specs.Hierarchy.{candidateCount, permissionSet, authorisedUsers};
@@ -12,14 +12,15 @@ ghost use Rattle.model.proofs.Record.{Limits};
 ghost use Rattle.tables.specs.Tables.{Holds};
 ghost use Rattle.building.specs.Tables.{Source, Indexed, Built, Zeros};
 use crate::index::fill_roles;
+use crate::shared::fill_shared;
 use columns::fill_columns;
 use hierarchy::fill_juniors;
-use hierarchy::fill_lower;
 use hierarchy::fill_members;
 use hierarchy::fill_permissions;
 use sets::Set128;
 
-// The indexes: for 128 roles and users 8,128 subset tests, 128 searches, and a transposition of bits.
+// The indexes: a search to a user, at most c subset tests for each row that differs, a transposition of bits, and for each role that is nobody's row
+// an intersection with the roles of each row that contains it. For 128 roles that are all rows these are 8,128 tests.
 pub fn fill_indexes(
     crew: &[u64],
     at: usize,
@@ -33,9 +34,9 @@ pub fn fill_indexes(
     requires { ⌜ (at + 4 * n ≤ length (now crew)) × (n ≤ 128) × (length (now table) ≡ 512) × (c ≤ 128) × Growing (rowsAt c (now table) 0) × (length (now low) ≡ 256) × (length (now roles) ≡ 256) × (length (now users) ≡ 256) ⌝ }
     ensures { λ r. ⌜ ((st : State) → Source st (now (crew .entry)) at n (now (table .entry)) c → Indexed st (now (low .exit)) (now (roles .exit)) (now (users .exit))) ⌝ }
 {
-    fill_lower(table, c, low);
-    fill_roles(crew, at, n, table, c, low, roles);
+    let own = fill_roles(crew, at, n, table, c, low, roles);
     fill_columns(roles, n, c, users);
+    fill_shared(roles, users, own, c, low);
 }
 
 // The rows of the building, into tables of zeros: they take a step for each link.

@@ -1,13 +1,12 @@
 -- The refusals of an elimination, in their order, and its acceptance.
 -- Assumes nothing.
-use mathlib.Core.Path.{_≡_, refl, sym, _∙_, ap}
-use mathlib.Core.Bool.{Bool, true, false, So}
-use mathlib.Core.Logic.{_↔_, _≢_}
+use mathlib.Core.Path.{_≡_, refl, sym, _∙_}
+use mathlib.Core.Bool.{false, So}
+use mathlib.Core.Logic.{_↔_}
 use mathlib.Core.List.{List}
-use Prim.Native.Nat.{ℕ, _*_, _^_, _≤_, _<_}
+use Prim.Native.Nat.{ℕ, _*_, _≤_}
 use native.Mathlib.Omega.{arith}
-use lib.Dec.{eqb, leb, ltb}
-use lib.ListN.{length, getD}
+use lib.Dec.{leb}
 use Rattle.sets.specs.Truth.{_and_}
 use Rattle.sets.proofs.Truth.{same-test, So-not, not-So, and-iff, leb-iff, if-passes, if-stops}
 use Rattle.model.specs.Quality.{Weights, weightsAllowed}

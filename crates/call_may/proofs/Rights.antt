@@ -1,22 +1,21 @@
 -- The refusals of the question whether a user may, in their order, and the answer.
 -- Assumes nothing.
-use mathlib.Core.Path.{_≡_, refl, sym, _∙_, ap}
-use mathlib.Core.Bool.{Bool, true, false, So}
-use mathlib.Core.Logic.{_↔_, _≢_}
+use mathlib.Core.Path.{_≡_, sym, _∙_, ap}
+use mathlib.Core.Bool.{Bool, false, So}
+use mathlib.Core.Logic.{_≢_}
 use mathlib.Core.List.{List}
-use Prim.Native.Nat.{ℕ, _*_, _^_, _≤_, _<_}
+use Prim.Native.Nat.{ℕ, _≤_, _<_}
 use native.Mathlib.Omega.{arith}
-use lib.Dec.{eqb, leb, ltb}
+use lib.Dec.{ltb}
 use lib.ListN.{length, getD}
-use Rattle.sets.specs.Truth.{_and_, isnt, if_then_else_, bit}
+use Rattle.sets.specs.Truth.{_and_, bit}
 use Rattle.sets.specs.Sets.{has}
-use Rattle.sets.proofs.Truth.{same-iff, So-not, not-So, and-iff, ltb-iff, if-passes, if-stops, bit-true, bit-false}
+use Rattle.sets.proofs.Truth.{same-iff, not-So, and-iff, ltb-iff, if-passes, if-stops, bit-true, bit-false}
 use Rattle.model.specs.Hierarchy.{candidateCount}
 use Rattle.model.specs.Chains.{may}
-use Rattle.model.specs.Quality.{Weights, weightsAllowed, counted, weigh}
-use Rattle.model.specs.State.{State, rolesOf}
+use Rattle.model.specs.State.{rolesOf}
 use Rattle.model.specs.Record.{recordLength, stateOf, rowsOf, sound}
-use Rattle.model.specs.Calls.{Told, unfit, qualityOf, mayOf}
+use Rattle.model.specs.Calls.{Told, unfit, mayOf}
 use Rattle.reading.proofs.Sound.{may-granted}
 use Rattle.calls.proofs.Fitting.{unfit-1, unfit-5, fit-sound, some}
 use Rattle.calls.proofs.Telling.{told-refused, told-given, bad-record, good-record}

@@ -1,27 +1,25 @@
 -- The refusals of mining, in their order, and its acceptance.
 -- Assumes nothing.
-use mathlib.Core.Path.{_≡_, refl, sym, _∙_, ap, ap₂}
-use mathlib.Core.Bool.{Bool, true, false, So, not}
-use mathlib.Core.Logic.{_↔_, _≢_}
+use mathlib.Core.Path.{_≡_, refl, sym, _∙_}
+use mathlib.Core.Bool.{Bool, false, So}
+use mathlib.Core.Logic.{_≢_}
 use mathlib.Core.List.{List}
-use Prim.Native.Nat.{ℕ, _*_, _^_, _≤_, _<_}
+use Prim.Native.Nat.{ℕ, _*_, _≤_, _<_}
 use native.Mathlib.Omega.{arith}
-use borrow.Author.Tests.{not-true, not-false}
 use lib.Dec.{eqb, leb}
-use lib.ListN.{length, getD}
+use lib.ListN.{length}
 use Rattle.sets.specs.Truth.{_and_, isnt, if_then_else_}
 use Rattle.sets.proofs.Truth.{same-test, not-So, and-iff, eqb-iff, leb-iff, if-true, if-false, if-passes, if-stops}
 use Rattle.model.specs.Lists.{rowsAt}
 use Rattle.model.specs.Candidates.{candidates}
-use Rattle.model.specs.Hierarchy.{candidateCount, permissionSet}
+use Rattle.model.specs.Hierarchy.{permissionSet}
 use Rattle.model.specs.Record.{recordLength, built}
-use Rattle.model.specs.State.{State, rolesOf, fresh, withinLimits, rowsWithin}
-use Rattle.model.specs.Calls.{Mined, miningRefusal, mine}
+use Rattle.model.specs.State.{rolesOf, fresh, withinLimits, rowsWithin}
+use Rattle.model.specs.Calls.{miningRefusal, mine}
 use Rattle.model.proofs.Lists.{length-rowsAt}
-use Rattle.model.proofs.Record.{Limits, withinLimits-iff, rowsWithin-iff}
+use Rattle.model.proofs.Record.{withinLimits-iff, rowsWithin-iff}
 use Rattle.model.proofs.Steps.{fresh-fit}
 use Rattle.mining.specs.Mining.{Written}
-use Rattle.building.specs.Tables.{Source}
 use Rattle.records.specs.Records.{Tabled}
 use Rattle.call_mine.specs.declared.MineAnswer.{MineAnswer}
 use Rattle.call_mine.specs.Answers.{mined}

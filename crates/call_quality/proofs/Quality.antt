@@ -1,23 +1,19 @@
 -- The refusals of the quality, in their order, and the answer.
 -- Assumes nothing.
-use mathlib.Core.Path.{_≡_, refl, sym, _∙_, ap}
-use mathlib.Core.Bool.{Bool, true, false, So}
-use mathlib.Core.Logic.{_↔_, _≢_}
+use mathlib.Core.Path.{_≡_, sym, _∙_}
+use mathlib.Core.Bool.{false, So}
+use mathlib.Core.Logic.{_≢_}
 use mathlib.Core.List.{List}
-use Prim.Native.Nat.{ℕ, _*_, _^_, _≤_, _<_}
+use Prim.Native.Nat.{ℕ}
 use native.Mathlib.Omega.{arith}
-use lib.Dec.{eqb, leb, ltb}
-use lib.ListN.{length, getD}
-use Rattle.sets.specs.Truth.{_and_, isnt, if_then_else_, bit}
-use Rattle.sets.specs.Sets.{has}
-use Rattle.sets.proofs.Truth.{same-iff, So-not, not-So, and-iff, ltb-iff, if-passes, if-stops, bit-true, bit-false}
+use lib.ListN.{length}
+use Rattle.sets.proofs.Truth.{if-passes, if-stops}
 use Rattle.model.specs.Hierarchy.{candidateCount}
-use Rattle.model.specs.Chains.{may}
 use Rattle.model.specs.Quality.{Weights, weightsAllowed, counted, weigh}
-use Rattle.model.specs.State.{State, rolesOf}
+use Rattle.model.specs.State.{rolesOf}
 use Rattle.model.specs.Record.{recordLength, stateOf, rowsOf, sound}
-use Rattle.model.specs.Calls.{Told, unfit, qualityOf, mayOf}
-use Rattle.calls.proofs.Fitting.{unfit-1, unfit-5, fit-sound, some}
+use Rattle.model.specs.Calls.{Told, unfit, qualityOf}
+use Rattle.calls.proofs.Fitting.{unfit-1, unfit-5, some}
 use Rattle.calls.proofs.Telling.{told-refused, told-given, bad-record, good-record}
 use Rattle.call_quality.specs.declared.QualityAnswer.{QualityAnswer}
 use Rattle.call_quality.specs.Answers.{qualityTold}

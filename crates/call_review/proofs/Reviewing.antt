@@ -1,13 +1,10 @@
 -- The refusals of a review, in their order, and its acceptance.
 -- Assumes nothing.
-use mathlib.Core.Path.{_≡_, refl, sym, _∙_, ap}
-use mathlib.Core.Bool.{Bool, true, false, So}
-use mathlib.Core.Logic.{_↔_, _≢_}
+use mathlib.Core.Path.{_≡_, _∙_}
+use mathlib.Core.Bool.{false, So}
 use mathlib.Core.List.{List}
-use Prim.Native.Nat.{ℕ, _*_, _^_, _≤_, _<_}
+use Prim.Native.Nat.{ℕ}
 use native.Mathlib.Omega.{arith}
-use lib.Dec.{eqb, leb, ltb}
-use lib.ListN.{length, getD}
 use Rattle.sets.proofs.Truth.{if-passes, if-stops}
 use Rattle.model.specs.Quality.{Weights, weightsAllowed}
 use Rattle.model.specs.Machine.{refusal, accepted, answer, reviewed}

@@ -1,17 +1,14 @@
 -- The refusals of a strike, in their order, and its acceptance.
 -- Assumes nothing.
-use mathlib.Core.Path.{_≡_, refl, sym, _∙_, ap}
-use mathlib.Core.Bool.{Bool, true, false, So}
-use mathlib.Core.Logic.{_↔_, _≢_}
+use mathlib.Core.Path.{_≡_, refl, sym, _∙_}
+use mathlib.Core.Bool.{Bool, false, So}
 use mathlib.Core.List.{List}
-use Prim.Native.Nat.{ℕ, _*_, _^_, _≤_, _<_}
+use Prim.Native.Nat.{ℕ, _≤_, _<_}
 use native.Mathlib.Omega.{arith}
-use lib.Dec.{eqb, leb, ltb}
-use lib.ListN.{length, getD}
-use Rattle.sets.specs.Sets.{has, _∪_, _∖_, single}
-use Rattle.sets.proofs.Truth.{if-true, if-passes, if-stops}
+use lib.ListN.{getD}
+use Rattle.sets.specs.Sets.{has, _∖_, single}
+use Rattle.sets.proofs.Truth.{if-passes, if-stops}
 use Rattle.model.specs.Lists.{setAt}
-use Rattle.model.specs.Hierarchy.{candidateCount}
 use Rattle.model.specs.Coverage.{strikable}
 use Rattle.model.specs.Machine.{refusal, accepted}
 use Rattle.model.specs.Machine.Call.{strike}

@@ -1,12 +1,12 @@
 -- The calls that edit: what each is refused for, and what an accepted one leaves.
 -- Assumes nothing.
 use mathlib.Core.Path.{_≡_, refl, sym, _∙_, ap}
-use mathlib.Core.Bool.{Bool, true, false, So}
-use mathlib.Core.Logic.{_↔_, _≢_}
+use mathlib.Core.Bool.{Bool, false, So}
+use mathlib.Core.Logic.{_≢_}
 use mathlib.Core.List.{List}
-use Prim.Native.Nat.{ℕ, _*_, _^_, _≤_, _<_}
+use Prim.Native.Nat.{ℕ, _≤_, _<_}
 use native.Mathlib.Omega.{arith}
-use lib.Dec.{eqb, leb, ltb}
+use lib.Dec.{eqb, ltb}
 use lib.ListN.{length, getD}
 use Rattle.sets.specs.Truth.{isnt, if_then_else_}
 use Rattle.sets.specs.Sets.{has}
@@ -14,8 +14,8 @@ use Rattle.sets.proofs.Truth.{not-So, eqb-iff, ltb-iff, isnt-iff, if-true, if-p
 use Rattle.model.specs.Lists.{setAt}
 use Rattle.model.specs.Hierarchy.{candidateCount}
 use Rattle.model.specs.Quality.{counted}
-use Rattle.model.specs.Machine.{Call, Run, answer, refusal, accepted, step}
-use Rattle.model.specs.State.{State, rolesOf, standingNow}
+use Rattle.model.specs.Machine.{Call, Run, answer, refusal, accepted}
+use Rattle.model.specs.State.{rolesOf, standingNow}
 use Rattle.model.specs.Record.{recordLength, built, stateOf, rowsOf, sound}
 use Rattle.model.specs.Calls.{Edited, unfit, edit}
 use Rattle.model.proofs.Record.{Limits, sound-iff, sound-built}

@@ -11,11 +11,11 @@ use lib.Bits.{bitAnd, bitOr}
 use lib.Arith.{lt-of-le-ne}
 use lib.ListN.{length, getD, set, length-set}
 use lib.Seq.{getD-set-same, getD-set-other}
-use Rattle.sets.specs.Truth.{_and_, _or_, isnt, if_then_else_, all}
+use Rattle.sets.specs.Truth.{_and_, isnt, if_then_else_, all}
 use Rattle.sets.specs.Sets.{has}
 use Rattle.sets.proofs.Truth.{by-test, either, equal-or, same-test, not-So, and-iff, isnt-iff, eqb-iff, ltb-iff, leb-iff, all-is, if-true, if-false, picked}
-use Rattle.sets.proofs.Words.{masked}
-use Rattle.sets.proofs.Written.{has-and, has-or, has-masked, has-down, has-up, none-up}
+use Rattle.sets.proofs.Words.{masked, has-shift}
+use Rattle.sets.proofs.Written.{has-and, has-or, has-masked, has-up, none-up}
 use Rattle.model.proofs.Everything.{everything}
 use Rattle.columns.specs.Shuffles.{spaced, fromRow, fromColumn, Shuffled, Transposed}
 
@@ -51,7 +51,7 @@ low-word s m x y c h l =
 high-word : (s m x y c : ℕ) → m < 2 ^ 64 → y < 2 ^ 64 → has (bitOr (bitAnd (x / 2 ^ s) m) (masked y m)) c ≡ (if has m c then has x (s + c) else has y c)
 high-word s m x y c hm hy =
     has-or (bitAnd (x / 2 ^ s) m) (masked y m) c
-    ∙ rw (has-and (x / 2 ^ s) m c, has-masked y m c hy hm, has-down x s c) (picked (has m c) (has x (s + c)) (has y c))
+    ∙ rw (has-and (x / 2 ^ s) m c, has-masked y m c hy hm, has-shift x s c) (picked (has m c) (has x (s + c)) (has y c))
 
 -- ---- a shuffle, two words at a time
 

@@ -5,6 +5,7 @@ ghost use Rattle.sets.specs.Held.{set128};
 ghost use Rattle.sets.specs.Sets.{has, collect};
 ghost use Rattle.model.specs.Lists.{setAt};
 use sets::Set128;
+use sets::place_of;
 use sets::with_bit;
 
 // The places below n whose set in the table holds k: a column of the table, read downward.
@@ -20,8 +21,9 @@ pub fn column_of(table: &[u64], w: usize, n: usize, k: usize) -> Set128
     requires { ⌜ (n ≤ 128) × (w * n ≤ length (now table)) ⌝ }
     ensures { λ r. ⌜ set128 r ≡ collect n (λ i. has (setAt w (now (table .entry)) (w * i)) k) ⌝ }
 {
-    let j = k / 64;
-    let b = k % 64;
+    let p = place_of(k);
+    let j = p.word;
+    let b = p.bit;
     if w <= j {
         return Set128::empty();
     }

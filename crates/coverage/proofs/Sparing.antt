@@ -2,18 +2,16 @@
 -- Assumes nothing.
 use mathlib.Core.Path.{_≡_, refl, sym, _∙_, ap}
 use mathlib.Core.Bool.{Bool, true, false, So, not}
-use mathlib.Core.Logic.{_↔_, _≢_}
+use mathlib.Core.Logic.{_↔_}
 use mathlib.Core.List.{List}
-use Prim.Native.Nat.{ℕ, _+_, _*_, _^_, _≤_, _<_}
-use native.Mathlib.Nat.{lt-of-lt-of-le}
-use native.Mathlib.Omega.{arith}
+use Prim.Native.Nat.{ℕ, _*_, _^_, _<_}
 use lib.Dec.{eqb}
-use lib.ListN.{length, getD}
+use lib.ListN.{getD}
 use Rattle.sets.specs.Truth.{_implies_, isnt}
-use Rattle.sets.specs.Sets.{has, _∩_, _∪_, _∖_, single, collect}
-use Rattle.sets.proofs.Truth.{same-test, So-not, not-So, by-test, either, isnt-iff, implies-iff, eqb-iff, equal-or}
-use Rattle.sets.proofs.Items.{same-set, has-zero, item-below, item-of, empty-of}
-use Rattle.sets.proofs.Order.{∩-iff, ∖-iff, ∖-lt, single-iff, collect-iff, collect-same}
+use Rattle.sets.specs.Sets.{has, _∩_, _∖_, single, collect}
+use Rattle.sets.proofs.Truth.{same-test, So-not, not-So, by-test, isnt-iff, implies-iff, eqb-iff}
+use Rattle.sets.proofs.Items.{has-zero, item-below, empty-of}
+use Rattle.sets.proofs.Order.{∩-iff, ∖-iff, ∖-lt, collect-same}
 use Rattle.model.specs.Lists.{setAt}
 use Rattle.model.specs.Hierarchy.{Roles, candidateCount, permissionSet, directMembers, directPermissions}
 use Rattle.model.specs.Coverage.{grant, covered, strikable}
@@ -22,29 +20,13 @@ use Rattle.model.proofs.Reading.{Ordered, member-iff, permission-iff}
 use Rattle.model.proofs.Changes.{strikable-direct}
 use Rattle.model.proofs.Shortcuts.{covered-index}
 use Rattle.tables.specs.Tables.{Holds}
-use Rattle.tables.specs.Stores.{putAt, wordsOf}
-use Rattle.tables.proofs.Stores.{stored-back, stored-before, stored-after}
+use Rattle.tables.proofs.Tables.{HeldBut}
 use Rattle.coverage.specs.Sparing.{each, userSpared, grantsSpared, HoldsFor, Asked}
 use Rattle.coverage.proofs.Walking.{each-iff, each-none, each-past, each-fails}
 
 -- ---- the index of permissions, filled item by item
 
--- entries for the items of s that are not in rest
-abbrev pub HeldBut : ℕ → ℕ → (ℕ → ℕ) → List ℕ → Type 0
-HeldBut s rest f ws = (p : ℕ) → So (has s p) → (So (has rest p) → ⊥) → setAt 2 ws (2 * p) ≡ f p
-
-pub held-start : (s : ℕ) (f : ℕ → ℕ) (ws : List ℕ) → HeldBut s s f ws
-held-start s f ws p h d = absurd (d h)
-
-pub held-more : (s rest p x : ℕ) (f : ℕ → ℕ) (ws : List ℕ) → HeldBut s rest f ws → 2 * p + 2 ≤ length ws → x < 2 ^ 128 → x ≡ f p
-    → HeldBut s (rest ∖ single p) f (putAt ws (2 * p) (wordsOf 2 x))
-held-more s rest p x f ws inv room small e q h d =
-    equal-or q p (λ (same : q ≡ p). rw same (stored-back ws (2 * p) 2 x room small ∙ e))
-    (λ other. beside q p other ∙ inv q h (λ t. d (∖-iff rest (single p) q .1 (t, λ y. other (sym (single-iff p q .0 y))))))
-  where
-    beside : (q p : ℕ) → q ≢ p → setAt 2 (putAt ws (2 * p) (wordsOf 2 x)) (2 * q) ≡ setAt 2 ws (2 * q)
-    beside q p d = either q p (λ l. stored-before ws (2 * p) 2 x (2 * q) 2 (omega arith)) (λ l. stored-after ws (2 * p) 2 x (2 * q) 2 (omega arith))
-
+-- once none is left to do, each has its entry
 pub held-all : (s rest : ℕ) (f : ℕ → ℕ) (ws : List ℕ) → HeldBut s rest f ws → rest ≡ 0 → HoldsFor s f ws
 held-all s rest f ws inv e p h = inv p h (λ t. So-not (has-zero p) (rw e at t))
 

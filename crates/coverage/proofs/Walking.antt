@@ -1,10 +1,10 @@
 -- Walks that take items out of a set: what holds of every item left.
 -- Assumes nothing.
-use mathlib.Core.Path.{_≡_, refl, sym, _∙_}
-use mathlib.Core.Bool.{Bool, true, false, So}
+use mathlib.Core.Path.{_≡_, sym}
+use mathlib.Core.Bool.{Bool, false, So}
 use mathlib.Core.Logic.{_↔_}
 use Prim.Native.Nat.{ℕ, _<_}
-use Rattle.sets.specs.Truth.{_implies_, all}
+use Rattle.sets.specs.Truth.{_implies_}
 use Rattle.sets.specs.Sets.{has, _∖_, single}
 use Rattle.sets.proofs.Truth.{same-test, So-not, not-So, implies-iff, all-iff, equal-or}
 use Rattle.sets.proofs.Items.{has-zero}

@@ -8,7 +8,7 @@ use lib.ListN.{getD}
 use Rattle.sets.specs.Truth.{_implies_, all}
 use Rattle.sets.specs.Sets.{has}
 use Rattle.model.specs.Lists.{setAt}
-use Rattle.model.specs.Hierarchy.{Roles, candidateCount}
+use Rattle.model.specs.Hierarchy.{Roles}
 use Rattle.model.specs.Coverage.{grant, covered}
 use Rattle.model.specs.Indexes.{rolesOfUser, rolesOfPermission}
 use Rattle.tables.specs.Tables.{Holds}

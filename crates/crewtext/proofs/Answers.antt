@@ -13,13 +13,13 @@ use lib.ListN.{length, length-append}
 use borrow.Author.Tests.{eq-eqb, ne-eqb, le-leb, lt-leb}
 use lib.Pow.{pow-pos}
 use Rattle.sets.specs.Sets.{subset, collect}
-use Rattle.sets.specs.Words.{word}
 use Rattle.sets.proofs.Truth.{same-test, ltb-iff, if-true, if-false, if-passes, if-stops}
 use Rattle.sets.proofs.Items.{item-below}
 use Rattle.sets.proofs.Order.{subset-iff, subset-≤, collect-iff}
 use Rattle.sets.proofs.Below.{collect-below}
 use Rattle.text.specs.Hexadecimal.{hexadecimalValue}
-use Rattle.text.specs.Stores.{putAt}
+use Rattle.lists.specs.Stores.{putAt}
+use Rattle.tables.specs.Stores.{wordsOf}
 use Rattle.crewtext.specs.Format.{digitsFor}
 use Rattle.crewtext.specs.declared.CrewRead.{CrewRead}
 use Rattle.crewtext.specs.declared.header.Header.{Header}
@@ -84,7 +84,7 @@ module _ (text : List ℕ) (m start u at : ℕ) (words : List ℕ) (f : Filling 
   step o e = rw (f .read, e) refl
 
   pub fill-more : (digits s : ℕ) (after : List ℕ) → u < 128 → rowAt text (digitsFor m) u at ≡ Digits digits → s ≡ hexadecimalValue (digitsFor m) text digits → So (ltb s (2 ^ m))
-      → after ≡ putAt words (4 * u) (word s 0 ∷ word s 1 ∷ word s 2 ∷ word s 3 ∷ [])
+      → after ≡ putAt words (4 * u) (wordsOf 4 s)
       → Filling text m start (u + 1) (digits + digitsFor m + 1) after
   unfolding withRow
   fill-more digits s after h e es k w =

@@ -3,8 +3,10 @@ ghost use mathlib.Core.Path.{_≡_};
 ghost use Rattle.crewtext.specs.Reader.{headerAt, limited};
 use tables::limits_kept;
 use text::Decimal;
-use text::holds;
+use text::Field;
 use text::read_decimal;
+use text::read_fixed;
+use text::read_line_end;
 
 pub enum Header {
     // n, m and the place after the line
@@ -26,24 +28,24 @@ fn limits(n: u64, m: u64, next: usize) -> Header
 pub fn read_header(text: &[u8]) -> Header
     ensures { λ r. ⌜ r ≡ headerAt (now (text .entry)) ⌝ }
 {
-    if !holds(text, 0, b"crew,") {
-        return Header::Malformed;
-    }
-    let Decimal::Number { value: n, next } = read_decimal(text, 5) else {
+    let Field::Ends(users) = read_fixed(text, 0, b"crew,") else {
         return Header::Malformed;
     };
-    if !holds(text, next, b",") {
+    let Decimal::Number { value: n, next } = read_decimal(text, users) else {
         return Header::Malformed;
-    }
+    };
+    let Field::Ends(permissions) = read_fixed(text, next, b",") else {
+        return Header::Malformed;
+    };
     let Decimal::Number {
         value: m,
         next: end,
-    } = read_decimal(text, next + 1)
+    } = read_decimal(text, permissions)
     else {
         return Header::Malformed;
     };
-    if !holds(text, end, b"\n") {
+    let Field::Ends(rows) = read_line_end(text, end) else {
         return Header::Malformed;
-    }
-    limits(n, m, end + 1)
+    };
+    limits(n, m, rows)
 }

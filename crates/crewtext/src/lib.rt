@@ -11,8 +11,8 @@ mod rows;
 use crate::header::Header;
 use crate::header::read_header;
 use crate::rows::Rows;
-use crate::rows::copy;
 use crate::rows::read_rows;
+use tables::copy;
 
 const BUFFER: usize = 512;
 
@@ -57,7 +57,7 @@ fn fill(text: &[u8], at: usize, n: u64, m: u64, rows: &mut [u64]) -> CrewRead
     match read_rows(text, at, n as usize, m as usize, &mut words) {
         Rows::End(end) => {
             if end == text.len() {
-                copy(rows, &words);
+                copy(rows, 0, &words);
                 return CrewRead { code: 0, n, m };
             }
             refused(10)

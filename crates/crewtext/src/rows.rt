@@ -1,14 +1,13 @@
 // The rows, one after another.
 ghost use mathlib.Core.Path.{_≡_};
 ghost use Prim.Native.Nat.{_≤_};
-ghost use lib.ListN.{length};
 ghost use mathlib.Core.List.{[]};
 ghost use Rattle.crewtext.specs.Reader.{Filled, laid, rowsGiven, rowsTo};
 use crate::row::Row;
-use crate::row::put_set;
 use crate::row::read_row;
 use sets::Set256;
-use text::read_hexadecimal;
+use tables::store256;
+use text::hexadecimal_set;
 
 pub enum Rows {
     // the place after the last row
@@ -31,24 +30,13 @@ pub fn read_rows(text: &[u8], start: usize, n: usize, m: usize, words: &mut [u64
         let Row::Digits(digits) = read_row(text, at, u, d) else {
             return Rows::BadForm;
         };
-        let s = read_hexadecimal(text, digits, d);
+        let s = hexadecimal_set(text, digits, d);
         if !s.is_subset(allowed) {
             return Rows::BadBit;
         }
-        put_set(words, 4 * u, s);
+        store256(words, 4 * u, s);
         at = digits + d + 1;
         u += 1;
     }
     Rows::End(at)
-}
-
-pub fn copy(out: &mut [u64], words: &[u64])
-    requires { ⌜ length (now out) ≡ length (now words) ⌝ }
-    ensures { λ r. ⌜ now (out .exit) ≡ now (words .entry) ⌝ }
-{
-    let mut i = 0;
-    while i < words.len() {
-        out[i] = words[i];
-        i += 1;
-    }
 }

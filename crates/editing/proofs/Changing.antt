@@ -6,22 +6,22 @@ use mathlib.Core.Logic.{_≢_, _⊎_, ⊎-elim}
 use mathlib.Core.List.{List}
 use Prim.Native.Nat.{ℕ, _+_, _*_, _^_, _≤_, _<_}
 use native.Mathlib.Omega.{arith}
-use lib.Dec.{ltb}
+use lib.Dec.{eqb, ltb}
 use lib.ListN.{getD, take, drop}
 use Rattle.sets.specs.Truth.{if_then_else_}
 use Rattle.sets.specs.Sets.{has, _∪_, _∖_, single, collect}
-use Rattle.sets.proofs.Truth.{ltb-iff, if-true}
+use Rattle.sets.proofs.Truth.{by-test, eqb-iff, ltb-iff, if-true, if-false}
 use Rattle.sets.proofs.Order.{collect-iff, ∪-iff, single-iff, single-lt, has-with, with-without, ∪-lt, ∖-lt}
 use Rattle.model.specs.Lists.{setAt}
-use Rattle.model.specs.Hierarchy.{Roles, candidateCount, immediatelySenior, immediateJuniors}
+use Rattle.model.specs.Hierarchy.{Roles, candidateCount, immediatelySenior, immediateJuniors, directMembers}
 use Rattle.model.specs.Indexes.{lower}
-use Rattle.model.specs.Record.{juniorsStart, built}
+use Rattle.model.specs.Record.{membersStart, juniorsStart, built}
 use Rattle.model.specs.State.{State, rolesOf, standingNow}
 use Rattle.model.specs.Altered.{Altered}
 use Rattle.model.proofs.Reading.{Ordered, immediate-iff, junior-iff}
 use Rattle.model.proofs.Building.{stands-below, senior-stands}
-use Rattle.model.proofs.Changes.{restored-ordered, juniors-same, permissions-same, members-same}
-use Rattle.model.proofs.Record.{Limits, built-word, word-juniors, juniors-small, read-count, read-standing}
+use Rattle.model.proofs.Changes.{restored-ordered, juniors-same, permissions-same, members-same, members-kept}
+use Rattle.model.proofs.Record.{Limits, built-word, word-members, word-juniors, members-small, juniors-small, read-count, read-standing}
 use Rattle.model.proofs.Steps.{limits-ordered, limits-now}
 use Rattle.model.proofs.Altered.{strike-altered, restore-altered}
 use Rattle.tables.specs.Tables.{Holds}
@@ -73,6 +73,23 @@ module _ (ρ : Roles) (R k : ℕ) (o : Ordered ρ R) (stands : So (has R k)) whe
         let a = differ-out in
         record { juniors = λ i d. sym (a .juniors i d); permissions = λ i d. sym (a .permissions i d); members = λ j d. sym (a .members j d) }
 
+  -- the same where the direct members of its juniors are left alone because it has none of its own
+  pub differ-struck : (s x t z y : ℕ) → k < 128 → s ≡ seniors → x ≡ (if ltb k 128 then s ∪ single k else s) → t ≡ immediateJuniors ρ R k
+      → z ≡ (if eqb (directMembers ρ R k) 0 then 0 else t) → y ≡ (if ltb k 128 then z ∪ single k else z) → Differ ρ R (R ∖ single k) x y
+  differ-struck s x t z y small es ex et ez ey =
+      let full = differ-out s x t (t ∪ single k) small es ex et (sym (if-true (ltb k 128) (t ∪ single k) t (ltb-iff k 128 .1 small))) in
+      record {
+        juniors = full .juniors;
+        permissions = full .permissions;
+        members = λ j d.
+            by-test (eqb (directMembers ρ R k) 0)
+            (λ h. sym (members-kept ρ R o k (eqb-iff (directMembers ρ R k) 0 .0 h) j (λ e. d (with-k z y small ey j (_⊎_.inr e)))))
+            (λ h.
+            let same : z ≡ t = ez ∙ if-false (eqb (directMembers ρ R k) 0) 0 t h in
+            full .members j
+            (λ b. d (with-k z y small ey j (⊎-elim (λ q. _⊎_.inl (rw same q)) (λ q. _⊎_.inr (sym (single-iff k j .0 q))) (∪-iff t (single k) j .0 b)))));
+      }
+
 -- ---- what a record tells of the neighbours
 
 module _ (st : State) (lim : Limits st) (ws : List ℕ) (e : ws ≡ built st) where
@@ -99,6 +116,11 @@ module _ (st : State) (lim : Limits st) (ws : List ℕ) (e : ws ≡ built st) wh
   pub juniors-read : (k : ℕ) → k < 128 → setAt 2 ws (juniorsStart + 2 * k) ≡ immediateJuniors (rolesOf st) (st .standing) k
   juniors-read k small = region-read 2 juniorsStart k (immediateJuniors (rolesOf st) (st .standing)) ws small (juniors-small st lim k) juniors-held
 
+  pub members-read : (k : ℕ) → k < 128 → setAt 2 ws (membersStart + 2 * k) ≡ directMembers (rolesOf st) (st .standing) k
+  members-read k small =
+      region-read 2 membersStart k (directMembers (rolesOf st) (st .standing)) ws small (members-small st lim k)
+      (λ i j li lj. ap (λ (l : List ℕ). getD l (membersStart + 2 * i + j) 0) e ∙ built-word st (membersStart + 2 * i + j) (omega arith) ∙ word-members st i j li lj)
+
 -- the standing set with k put into it
 pub put-standing : (st : State) → Limits st → (ws : List ℕ) → ws ≡ built st → (k : ℕ) → k < 128 → (r R : ℕ) → r ≡ setAt 2 ws 4
     → R ≡ (if ltb k 128 then r ∪ single k else r) → R ≡ st .standing ∪ single k
@@ -114,16 +136,17 @@ Changed ws low users after c R x y =
     → Indexed st low roles users → Differ (rolesOf st) (st .standing) R x y → after ≡ built (standingNow st R)
 
 module _ (st : State) (lim : Limits st) (roles ws low users after : List ℕ) (e : ws ≡ built st) (ix : Indexed st low roles users) (k : ℕ) (small : k < 128) where
-  pub taken-at : (r R s x t y : ℕ) → r ≡ setAt 2 ws 4 → R ≡ r ∖ single k → x ≡ (if ltb k 128 then s ∪ single k else s)
-      → y ≡ (if ltb k 128 then t ∪ single k else t) → Changed ws low users after (getD ws 2 0) R x y → So (has (st .standing) k)
+  pub taken-at : (r R s x t z y : ℕ) → r ≡ setAt 2 ws 4 → R ≡ r ∖ single k → x ≡ (if ltb k 128 then s ∪ single k else s)
+      → z ≡ (if eqb (setAt 2 ws (membersStart + 2 * k)) 0 then 0 else t) → y ≡ (if ltb k 128 then z ∪ single k else z)
+      → Changed ws low users after (getD ws 2 0) R x y → So (has (st .standing) k)
       → s ≡ collect (candidateCount (rolesOf st)) (λ i. has (immediateJuniors (rolesOf st) (st .standing) i) k)
       → t ≡ immediateJuniors (rolesOf st) (st .standing) k → after ≡ built (standingNow st (st .standing ∖ single k))
-  taken-at r R s x t y er eR ex ey changed stands es et =
+  taken-at r R s x t z y er eR ex ez ey changed stands es et =
       let ρ = rolesOf st in
       let Q = st .standing in
       let o = limits-ordered st lim in
       let new : R ≡ Q ∖ single k = eR ∙ ap (λ (z : ℕ). z ∖ single k) (er ∙ standing-read st lim ws e) in
-      let d = differ-out ρ Q k o stands s x t y small es ex et ey in
+      let d = differ-struck ρ Q k o stands s x t z y small es ex et (rw (members-read st lim ws e k small) at ez) ey in
       changed st roles lim (count st lim ws e) (rw new (∖-lt (candidateCount ρ) Q (single k) (lim .standing-below))) e ix (rw new d) ∙ ap (λ (z : ℕ). built (standingNow st z)) new
 
   pub put-at : (r R s x t y : ℕ) → r ≡ setAt 2 ws 4 → R ≡ (if ltb k 128 then r ∪ single k else r)

@@ -1,9 +1,8 @@
 -- A record rewritten row by row, from the building of one standing set to that of another.
 -- Assumes nothing.
 use mathlib.Core.Path.{_≡_, refl, sym, _∙_, ap, subst}
-use mathlib.Core.Logic.{_≢_}
 use mathlib.Core.List.{List}
-use Prim.Native.Nat.{ℕ, zero, suc, _+_, _-_, _*_, _^_, _≤_, _<_}
+use Prim.Native.Nat.{ℕ, _+_, _-_, _*_, _^_, _≤_, _<_}
 use native.Mathlib.Nat.{lt-of-lt-of-le}
 use native.Mathlib.Omega.{arith}
 use lib.Pow.{pow-mono}
@@ -18,10 +17,13 @@ use Rattle.model.specs.Record.{recordLength, crewStart, setsStart, permissionsS
 use Rattle.model.specs.State.{State, rolesOf, standingNow}
 use Rattle.model.proofs.Lists.{tabulate-is}
 use Rattle.model.proofs.Steps.{limits-now}
+use Rattle.model.proofs.Altered.{same-head}
 use Rattle.model.proofs.Record.{Limits, by-region, word-head, word-crew, word-set, word-permissions, word-members, word-juniors, built-length, built-word, juniors-small}
-use Rattle.tables.specs.Stores.{putAt, wordsOf}
+use Rattle.lists.specs.Stores.{putAt}
+use Rattle.tables.specs.Stores.{wordsOf}
 use Rattle.tables.specs.Tables.{Holds}
-use Rattle.tables.proofs.Stores.{length-wordsOf, length-putAt, putAt-below, putAt-above, stored-word}
+use Rattle.lists.proofs.Stores.{length-putAt, putAt-below, putAt-above}
+use Rattle.tables.proofs.Stores.{length-wordsOf, stored-word}
 use Rattle.hierarchy.specs.Tables.{Numbered, Narrow}
 use Rattle.building.specs.Tables.{Indexed}
 use Rattle.building.proofs.Sources.{numbered, narrow}
@@ -50,7 +52,7 @@ module _ (old : Rows) (st : State) (s p t k x : ℕ) (ws : List ℕ) (lk : k < 1
         permissions = region-before 4 permissionsStart _ ws at 2 x (omega arith) (q .permissions);
         members = region-before 2 membersStart _ ws at 2 x (omega arith) (q .members);
         juniors =
-            region-stored 2 juniorsStart k x _ (still (s ∖ single k) (old .juniors) new) ws (room 2056 (omega arith)) lk (q .juniors)
+            region-stored 2 juniorsStart k x _ (still (s ∖ single k) (old .juniors) new) ws (room recordLength (omega arith)) lk (q .juniors)
             (still-done s (old .juniors) new k ∙ sym e) (still-other s (old .juniors) new k);
       }
 
@@ -65,7 +67,7 @@ module _ (old : Rows) (st : State) (s p t k x : ℕ) (ws : List ℕ) (lk : k < 1
         crew = region-before 4 crewStart _ ws at 4 x (omega arith) (q .crew);
         sets = region-before 4 setsStart _ ws at 4 x (omega arith) (q .sets);
         permissions =
-            region-stored 4 permissionsStart k x _ (still (p ∖ single k) (old .permissions) new) ws (room 1544 (omega arith)) lk (q .permissions)
+            region-stored 4 permissionsStart k x _ (still (p ∖ single k) (old .permissions) new) ws (room membersStart (omega arith)) lk (q .permissions)
             (still-done p (old .permissions) new k ∙ sym e) (still-other p (old .permissions) new k);
         members = region-after 2 membersStart _ ws at 4 x (omega arith) (q .members);
         juniors = region-after 2 juniorsStart _ ws at 4 x (omega arith) (q .juniors);
@@ -83,24 +85,12 @@ module _ (old : Rows) (st : State) (s p t k x : ℕ) (ws : List ℕ) (lk : k < 1
         sets = region-before 4 setsStart _ ws at 2 x (omega arith) (q .sets);
         permissions = region-before 4 permissionsStart _ ws at 2 x (omega arith) (q .permissions);
         members =
-            region-stored 2 membersStart k x _ (still (t ∖ single k) (old .members) new) ws (room 1800 (omega arith)) lk (q .members)
+            region-stored 2 membersStart k x _ (still (t ∖ single k) (old .members) new) ws (room juniorsStart (omega arith)) lk (q .members)
             (still-done t (old .members) new k ∙ sym e) (still-other t (old .members) new k);
         juniors = region-after 2 juniorsStart _ ws at 2 x (omega arith) (q .juniors);
       }
 
 -- ---- the start: the standing set is stored
-
-same-head : (st : State) (R i : ℕ) → i ≢ 4 → i ≢ 5 → headerWord st i ≡ headerWord (standingNow st R) i
-unfolding headerWord standingNow rolesOf
-same-head st R zero d4 d5 = refl
-same-head st R (suc zero) d4 d5 = refl
-same-head st R (suc (suc zero)) d4 d5 = refl
-same-head st R (suc (suc (suc zero))) d4 d5 = refl
-same-head st R (suc (suc (suc (suc zero)))) d4 d5 = absurd (d4 refl)
-same-head st R (suc (suc (suc (suc (suc zero))))) d4 d5 = absurd (d5 refl)
-same-head st R (suc (suc (suc (suc (suc (suc zero)))))) d4 d5 = refl
-same-head st R (suc (suc (suc (suc (suc (suc (suc zero))))))) d4 d5 = refl
-same-head st R (suc (suc (suc (suc (suc (suc (suc (suc i)))))))) d4 d5 = refl
 
 marks : (st : State) (R j : ℕ) → j < 2 → headerWord (standingNow st R) (4 + j) ≡ word R j
 unfolding headerWord standingNow

@@ -4,7 +4,7 @@ use mathlib.Core.Path.{_≡_, refl, sym, _∙_, ap}
 use mathlib.Core.Bool.{Bool, So}
 use mathlib.Core.Logic.{_≢_}
 use mathlib.Core.List.{List}
-use Prim.Native.Nat.{ℕ, suc, _+_, _-_, _*_, _^_, _≤_, _<_}
+use Prim.Native.Nat.{ℕ, suc, _+_, _*_, _^_, _≤_, _<_}
 use native.Mathlib.Nat.{mul-suc, mul-le-mul-left, lt-of-lt-of-le}
 use native.Mathlib.Omega.{arith}
 use lib.ListN.{length, getD, take, drop}
@@ -17,9 +17,11 @@ use Rattle.sets.proofs.Items.{has-zero}
 use Rattle.sets.proofs.Order.{∖-iff, single-iff}
 use Rattle.model.specs.Lists.{setAt}
 use Rattle.model.proofs.Lists.{setAt-words}
-use Rattle.tables.specs.Stores.{putAt, wordsOf}
+use Rattle.lists.specs.Stores.{putAt}
+use Rattle.tables.specs.Stores.{wordsOf}
 use Rattle.tables.specs.Tables.{Holds}
-use Rattle.tables.proofs.Stores.{length-wordsOf, putAt-below, putAt-above, stored-word}
+use Rattle.lists.proofs.Stores.{putAt-below, putAt-above}
+use Rattle.tables.proofs.Stores.{length-wordsOf, stored-word}
 use Rattle.editing.specs.Partway.{still, Region}
 
 -- ---- what is still old

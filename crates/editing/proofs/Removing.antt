@@ -3,7 +3,7 @@
 use mathlib.Core.Path.{_≡_, refl, sym, _∙_, ap}
 use mathlib.Core.Bool.{Bool, So}
 use mathlib.Core.List.{List}
-use Prim.Native.Nat.{ℕ, _+_, _*_, _^_, _≤_, _<_}
+use Prim.Native.Nat.{ℕ, _+_, _*_, _^_, _<_}
 use native.Mathlib.Nat.{lt-of-lt-of-le}
 use native.Mathlib.Omega.{arith}
 use lib.Dec.{ltb}
@@ -17,28 +17,22 @@ use Rattle.model.specs.Lists.{setAt}
 use Rattle.model.specs.Hierarchy.{Roles, candidateCount, permissionSet, directMembers, directPermissions}
 use Rattle.model.specs.Coverage.{strikable}
 use Rattle.model.specs.Indexes.{rolesOfPermission}
-use Rattle.model.specs.Record.{crewStart, setsStart, permissionsStart, membersStart, built}
+use Rattle.model.specs.Record.{crewStart, setsStart, permissionsStart, membersStart, built, recordLength}
 use Rattle.model.specs.State.{State, rolesOf}
 use Rattle.model.proofs.Building.{stands-below}
-use Rattle.model.proofs.Record.{Limits, built-word, word-crew, word-set, word-permissions, word-members, row-below, permissions-small, members-small, directPermissions-lt, directMembers-lt}
+use Rattle.model.proofs.Record.{Limits, built-word, word-crew, word-set, word-permissions, row-below, permissions-small, directPermissions-lt, directMembers-lt}
 use Rattle.model.proofs.Steps.{limits-ordered}
 use Rattle.tables.specs.Tables.{Holds}
 use Rattle.building.specs.Tables.{Indexed}
 use Rattle.building.proofs.Sources.{narrow}
 use Rattle.coverage.specs.Sparing.{grantsSpared, HoldsFor, Asked}
 use Rattle.coverage.proofs.Sparing.{holders-are, spared-strikable}
-use Rattle.editing.specs.Partway.{Region}
 use Rattle.editing.proofs.Regions.{region-holds, region-read}
-use Rattle.editing.proofs.Changing.{count, standing-read}
+use Rattle.editing.proofs.Changing.{count, standing-read, members-read}
 
 module _ (st : State) (lim : Limits st) (ws : List ℕ) (e : ws ≡ built st) where
-  word-read : (i : ℕ) → i < 2056 → getD ws i 0 ≡ getD (built st) i 0
+  word-read : (i : ℕ) → i < recordLength → getD ws i 0 ≡ getD (built st) i 0
   word-read i l = ap (λ (x : List ℕ). getD x i 0) e
-
-  pub members-read : (k : ℕ) → k < 128 → setAt 2 ws (membersStart + 2 * k) ≡ directMembers (rolesOf st) (st .standing) k
-  members-read k small =
-      region-read 2 membersStart k (directMembers (rolesOf st) (st .standing)) ws small (members-small st lim k)
-      (λ i j li lj. word-read (membersStart + 2 * i + j) (omega arith) ∙ built-word st (membersStart + 2 * i + j) (omega arith) ∙ word-members st i j li lj)
 
   pub permissions-read : (k : ℕ) → k < 128 → setAt 4 ws (permissionsStart + 4 * k) ≡ directPermissions (rolesOf st) (st .standing) k
   permissions-read k small =

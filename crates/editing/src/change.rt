@@ -2,12 +2,15 @@
 ghost use mathlib.Core.Path.{_≡_};
 ghost use mathlib.Core.Bool.{false, So};
 ghost use mathlib.Core.List.{List};
-ghost use Prim.Native.Nat.{ℕ, _≤_, _<_};
+ghost use Prim.Native.Nat.{ℕ, _+_, _*_, _≤_, _<_};
+ghost use lib.Dec.{eqb};
 ghost use lib.ListN.{length, getD};
 ghost use Rattle.sets.specs.Held.{set128};
 ghost use Rattle.sets.specs.Sets.{has, _∪_, _∖_, single, collect};
+ghost use Rattle.sets.specs.Truth.{if_then_else_};
+ghost use Rattle.model.specs.Lists.{setAt};
 ghost use Rattle.model.specs.Hierarchy.{candidateCount, immediateJuniors};
-ghost use Rattle.model.specs.Record.{recordLength, built};
+ghost use Rattle.model.specs.Record.{recordLength, membersStart, built};
 ghost use Rattle.model.specs.State.{State, rolesOf, standingNow};
 ghost use Rattle.model.proofs.Record.{Limits};
 ghost use Rattle.building.specs.Tables.{Indexed};
@@ -19,9 +22,22 @@ use hierarchy::juniors_of;
 use sets::Set128;
 use tables::JUNIORS;
 use tables::LENGTH;
+use tables::MEMBERS;
 use tables::STANDING;
 use tables::load128;
 use tables::store128;
+
+// Of the juniors of the standing role k those whose direct members a strike of k can alter. They get nothing but its own direct members, so there
+// are none where it has none.
+fn heirs(rec: &[u64], k: usize, juniors: Set128) -> Set128
+    requires { ⌜ (length (now rec) ≡ recordLength) × (k < 128) ⌝ }
+    ensures { λ r. ⌜ set128 r ≡ (if eqb (setAt 2 (now (rec .entry)) (membersStart + 2 * k)) 0 then 0 else set128 juniors) ⌝ }
+{
+    if load128(rec, MEMBERS + 2 * k).is_empty() {
+        return Set128::empty();
+    }
+    juniors
+}
 
 // Takes the standing role k out, whose immediate seniors and juniors are these.
 pub fn take_out_at(
@@ -38,9 +54,10 @@ pub fn take_out_at(
     let c = rec[2] as usize;
     let standing = load128(rec, STANDING);
     let left = standing.remove(k);
+    let lowers = heirs(rec, k, juniors);
     store128(rec, STANDING, left);
     rewrite_uppers(rec, low, left, seniors.insert(k));
-    rewrite_lowers(rec, users, c, left, juniors.insert(k));
+    rewrite_lowers(rec, users, c, left, lowers.insert(k));
 }
 
 // Takes the standing role k out. Its neighbours are those of the building in which it stands, so they are read before anything is written.

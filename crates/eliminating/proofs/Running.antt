@@ -1,15 +1,15 @@
 -- All passes as the code makes them.
 -- Assumes nothing.
-use mathlib.Core.Path.{_≡_, refl, sym, _∙_, ap, subst}
-use mathlib.Core.Bool.{Bool, true, false, So}
+use mathlib.Core.Path.{_≡_, refl, sym, _∙_, ap}
+use mathlib.Core.Bool.{false}
 use mathlib.Core.Logic.{_≢_}
 use mathlib.Core.List.{List}
-use Prim.Native.Nat.{ℕ, zero, suc, _+_, _-_, _*_, _^_, _≤_, _<_}
+use Prim.Native.Nat.{ℕ, zero, suc, _+_, _-_, _*_, _≤_, _<_}
 use native.Mathlib.Numerals.{add-one}
 use native.Mathlib.Omega.{arith}
 use lib.Count.{ones}
 use lib.Dec.{eqb, ltb}
-use lib.ListN.{length, getD, take, drop}
+use lib.ListN.{getD, take, drop}
 use Rattle.sets.specs.Truth.{if_then_else_}
 use Rattle.sets.specs.Sets.{has, _∖_, single, collect}
 use Rattle.sets.proofs.Truth.{not-So, eqb-iff, ltb-iff, if-true, if-false}
@@ -22,10 +22,10 @@ use Rattle.model.specs.Quality.{Weights, quality}
 use Rattle.model.specs.Machine as model
 use Rattle.model.specs.Machine.{Run, takeUp, takeUpAll, foremost, pass, passes, begin, eliminated}
 use Rattle.model.specs.Record.{setsStart, built, stateOf}
-use Rattle.model.specs.State.{State, rolesOf, standingNow}
+use Rattle.model.specs.State.{State, rolesOf}
 use Rattle.model.proofs.Reading.{strikables-iff, strikable-stands}
 use Rattle.model.proofs.Elimination.{pass-examined}
-use Rattle.model.proofs.Record.{Limits, read-permissions}
+use Rattle.model.proofs.Record.{Limits}
 use Rattle.building.specs.Tables.{Indexed}
 use Rattle.tables.specs.Tables.{Holds}
 use Rattle.coverage.specs.Sparing.{HoldsFor}

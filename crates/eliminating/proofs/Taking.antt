@@ -1,18 +1,18 @@
 -- A pass as the code makes it: the roles of a worklist taken up one after the other.
 -- Assumes nothing.
-use mathlib.Core.Path.{_≡_, refl, sym, _∙_, ap, ap₂, subst}
-use mathlib.Core.Bool.{Bool, true, false, So}
+use mathlib.Core.Path.{_≡_, refl, sym, _∙_, ap, subst}
+use mathlib.Core.Bool.{So}
 use mathlib.Core.Logic.{_≢_}
 use mathlib.Core.List.{List}
-use Prim.Native.Nat.{ℕ, zero, suc, _+_, _-_, _*_, _^_, _≤_, _<_}
+use Prim.Native.Nat.{ℕ, suc, _+_, _^_, _≤_, _<_}
 use native.Mathlib.Nat.{le-refl, le-trans}
 use native.Mathlib.Omega.{arith}
 use lib.Count.{ones, ones-le}
 use lib.ListN.{getD, replicate}
-use Rattle.sets.specs.Sets.{has, _∪_, _∖_, single, subset}
+use Rattle.sets.specs.Sets.{has, _∖_, single}
 use Rattle.sets.proofs.Truth.{not-So}
 use Rattle.sets.proofs.Items.{below-of-items, item-below}
-use Rattle.sets.proofs.Order.{∖-iff, ∖-lt, single-iff, subset-iff}
+use Rattle.sets.proofs.Order.{∖-iff, ∖-lt, single-iff}
 use Rattle.sets.proofs.Counts.{ones-without, ones-zero}
 use Rattle.model.specs.Hierarchy.{Roles, candidateCount}
 use Rattle.model.specs.Quality.{Weights, quality}
@@ -22,7 +22,6 @@ use Rattle.model.specs.Machine.{Run, dropped, struck, kept, takeUp, takeUpAll, 
 use Rattle.model.specs.Record.{stateOf}
 use Rattle.model.specs.State.{State, rolesOf, standingNow}
 use Rattle.model.proofs.Elimination.{take-up, examined-one}
-use Rattle.model.proofs.Steps.{now-now, roles-now, standing-now}
 use Rattle.building.specs.Tables.{Zeros}
 use Rattle.records.proofs.Judging.{zeros}
 use Rattle.ordering.specs.Ranking.{Nested, Keyed, Ranked}
@@ -30,7 +29,7 @@ use Rattle.ordering.proofs.Ranking.{nested}
 use Rattle.trials.specs.declared.progress.Progress.{Progress}
 use Rattle.trials.specs.Trying.{runAt, Kin, Ready, Going}
 use Rattle.trials.proofs.Moving.{roles-count}
-use Rattle.trials.proofs.Runs.{kin-same, kin-trans, kin-roles, kin-count}
+use Rattle.trials.proofs.Runs.{kin-same, kin-trans, kin-roles}
 use Rattle.eliminating.specs.Passing.{Searched, Stand}
 
 -- ---- what a turn leaves

@@ -3,14 +3,14 @@
 use mathlib.Core.Path.{_≡_, sym, _∙_, ap}
 use mathlib.Core.Bool.{Bool, false, So}
 use mathlib.Core.List.{List}
-use Prim.Native.Nat.{ℕ, suc, _+_, _-_, _*_, _≤_, _<_}
+use Prim.Native.Nat.{ℕ, suc, _+_, _*_, _≤_, _<_}
 use native.Mathlib.Nat.{mul-le-mul}
 use native.Mathlib.Numerals.{add-one}
 use native.Mathlib.Omega.{arith}
-use lib.Dec.{leb, ltb}
-use Rattle.sets.specs.Truth.{isnt, _and_}
+use lib.Dec.{ltb}
+use Rattle.sets.specs.Truth.{isnt}
 use Rattle.sets.specs.Sets.{has, _∖_, single}
-use Rattle.sets.proofs.Truth.{So-not, not-So, and-iff, isnt-iff, ltb-iff, leb-iff, if-true, if-false}
+use Rattle.sets.proofs.Truth.{So-not, not-So, isnt-iff, ltb-iff, if-true, if-false}
 use Rattle.sets.proofs.Items.{item-below}
 use Rattle.model.specs.Hierarchy.{directPermissions}
 use Rattle.model.specs.Coverage.{strikable}

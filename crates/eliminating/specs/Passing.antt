@@ -3,9 +3,8 @@
 use mathlib.Core.Path.{_≡_}
 use mathlib.Core.Bool.{So}
 use mathlib.Core.List.{List}
-use Prim.Native.Nat.{ℕ, _*_, _<_}
+use Prim.Native.Nat.{ℕ}
 use Rattle.sets.specs.Sets.{has}
-use Rattle.model.specs.Lists.{setAt}
 use Rattle.model.specs.Indexes.{rolesOfUser, rolesOfPermission}
 use Rattle.model.specs.Machine as model
 use Rattle.model.specs.State.{State, rolesOf}

@@ -1,7 +1,7 @@
 // All passes.
 ghost use mathlib.Core.Path.{_≡_};
 ghost use mathlib.Core.Bool.{So};
-ghost use Prim.Native.Nat.{ℕ, _≤_};
+ghost use Prim.Native.Nat.{_≤_};
 ghost use lib.ListN.{length};
 ghost use Rattle.sets.specs.Held.{set128};
 ghost use Rattle.model.specs.Coverage.{strikables};
@@ -12,7 +12,7 @@ ghost use Rattle.model.specs.State.{rolesOf};
 ghost use Rattle.tables.specs.Tables.{Holds};
 ghost use Rattle.model.specs.Indexes.{rolesOfUser};
 ghost use Rattle.ordering.specs.Ranking.{Ranked};
-ghost use Rattle.trials.specs.Trying.{weightsIn, runAt, Kin, Ready, Exact, Going};
+ghost use Rattle.trials.specs.Trying.{weightsIn, Kin, Ready, Exact, Going};
 ghost use Rattle.eliminating.specs.Passing.{toleranceIn, Searched, Ended};
 use crate::pass::pass;
 use crate::turn::Tolerance;

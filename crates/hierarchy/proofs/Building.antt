@@ -1,12 +1,11 @@
 -- A role's row, told by tables: the laws that the functions of rows.rt cite.
 -- Assumes nothing.
-use mathlib.Core.Path.{_≡_, refl, sym, _∙_, ap, ap₂}
+use mathlib.Core.Path.{_≡_, sym, _∙_, ap}
 use mathlib.Core.Bool.{Bool, true, false, So, not}
-use mathlib.Core.Logic.{_↔_, _≢_, _⊎_, ⊎-elim}
+use mathlib.Core.Logic.{_↔_}
 use mathlib.Core.List.{List}
-use Prim.Native.Nat.{ℕ, _+_, _*_, _^_, _≤_, _<_}
-use native.Mathlib.Nat.{lt-of-lt-of-le, le-trans}
-use native.Mathlib.Omega.{arith}
+use Prim.Native.Nat.{ℕ, _*_, _^_, _<_}
+use native.Mathlib.Nat.{lt-of-lt-of-le}
 use borrow.Author.Tests.{not-true, not-false}
 use Rattle.sets.specs.Sets.{has, _∩_, collect}
 use Rattle.sets.proofs.Truth.{So-not}
@@ -15,8 +14,8 @@ use Rattle.sets.proofs.Order.{collect-iff, collect-same, ∩-lt}
 use Rattle.model.specs.Lists.{setAt}
 use Rattle.model.specs.Hierarchy.{Roles, candidateCount, permissionSet, authorisedUsers, immediateJuniors, directPermissions, directMembers}
 use Rattle.model.specs.Indexes.{lower, maximal}
-use Rattle.model.proofs.Reading.{Ordered, user-iff, junior-iff, permission-iff, member-iff}
-use Rattle.model.proofs.Building.{absent-juniors, absent-permissions, absent-members, stands-below}
+use Rattle.model.proofs.Reading.{Ordered, user-iff, junior-iff, permission-iff}
+use Rattle.model.proofs.Building.{stands-below}
 use Rattle.model.proofs.Shortcuts.{juniors-maximal, permission-immediate, member-immediate}
 use Rattle.tables.specs.Tables.{Holds}
 use Rattle.hierarchy.specs.Tables.{Numbered, Narrow, lessAll}

@@ -3,7 +3,6 @@
 use mathlib.Core.Path.{_≡_}
 use mathlib.Core.Logic.{_≢_}
 use Prim.Native.Nat.{ℕ, _^_, _<_}
-use Rattle.sets.specs.declared.item.Item.{Item}
 use Rattle.sets.specs.declared.item.Item.the-variants.{At, Nothing}
 use Rattle.sets.specs.Extremes.{lowest, highest}
 use Rattle.sets.proofs.Extremes.{lowest-iff, highest-iff, lowest-none-iff, highest-none-iff, lowest-≤, highest-≥}

@@ -1,20 +1,20 @@
 -- A set less the sets of others, taken away one after the other; the maximal roles, found from the highest down.
 -- Assumes nothing.
-use mathlib.Core.Path.{_≡_, refl, sym, _∙_, ap, ap₂}
+use mathlib.Core.Path.{_≡_, sym, _∙_, ap, ap₂}
 use mathlib.Core.Bool.{Bool, true, false, So, not}
 use mathlib.Core.Logic.{_↔_, _≢_, _⊎_, ⊎-elim}
 use mathlib.Core.List.{List}
-use Prim.Native.Nat.{ℕ, suc, _+_, _*_, _^_, _≤_, _<_}
+use Prim.Native.Nat.{ℕ, _*_, _^_, _<_}
 use native.Mathlib.Omega.{arith}
 use lib.Count.{ones}
 use lib.Dec.{eqb, ltb}
 use borrow.Author.Tests.{not-true, not-false}
 use Rattle.sets.specs.Truth.{_and_, none, if_then_else_}
-use Rattle.sets.specs.Sets.{has, _∪_, _∖_, single, collect}
+use Rattle.sets.specs.Sets.{has, _∪_, _∖_, single}
 use Rattle.sets.proofs.Truth.{So-not, and-iff, none-of, none-is, equal-or, eqb-iff, ltb-iff, if-true}
-use Rattle.sets.proofs.Items.{has-zero, item-below, same-set, below-of-items, empty-of}
+use Rattle.sets.proofs.Items.{has-zero, item-below, same-set, empty-of}
 use Rattle.sets.proofs.Order.{collect-iff, ∖-iff, ∖-lt, ∪-iff, single-iff, zero-∪, ∪-zero, subset-iff}
-use Rattle.sets.proofs.Counts.{ones-without, ones-subset, ones-proper}
+use Rattle.sets.proofs.Counts.{ones-without, ones-subset}
 use Rattle.model.specs.Lists.{setAt}
 use Rattle.model.specs.Hierarchy.{Roles, candidateCount}
 use Rattle.model.specs.Indexes.{lower, maximal}

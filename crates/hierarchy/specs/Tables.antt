@@ -1,7 +1,7 @@
 -- What the functions over tables ask of the roles, and a set less those of others.
 -- Assumes nothing.
 use mathlib.Core.Path.{_≡_}
-use mathlib.Core.Bool.{Bool, So}
+use mathlib.Core.Bool.{So}
 use mathlib.Core.List.{List}
 use Prim.Native.Nat.{ℕ, _*_, _^_, _<_, _≤_}
 use Rattle.sets.specs.Truth.{_and_, none}

@@ -3,13 +3,11 @@ ghost use mathlib.Core.Path.{_≡_};
 ghost use Prim.Native.Nat.{_+_, _*_, _^_, _≤_, _<_};
 ghost use lib.ListN.{length};
 ghost use Rattle.sets.specs.Held.{set128};
-ghost use Rattle.sets.specs.Sets.{has, subset, collect};
-ghost use Rattle.model.specs.Lists.{setAt};
+ghost use Rattle.sets.specs.Sets.{has, collect};
 ghost use Rattle.model.specs.Hierarchy.{Roles, candidateCount, permissionSet, authorisedUsers, immediateJuniors, directPermissions, directMembers};
 ghost use Rattle.model.specs.Indexes.{lower};
 ghost use Rattle.tables.specs.Tables.{Holds, Filled};
 ghost use Rattle.hierarchy.specs.Tables.{Numbered, Narrow};
-use crate::lower::lower_of;
 use crate::rows::juniors_of;
 use crate::rows::members_of;
 use crate::rows::permissions_of;
@@ -18,18 +16,6 @@ use sets::Set128;
 use tables::load128;
 use tables::store128;
 use tables::store256;
-
-// The roles below each role.
-pub fn fill_lower(table: &[u64], c: usize, out: &mut [u64])
-    requires { ⌜ (length (now table) ≡ 512) × (length (now out) ≡ 256) × (c ≤ 128) ⌝ }
-    ensures { λ r. ⌜ Filled 2 c (λ k. collect k (λ j. subset (setAt 4 (now (table .entry)) (4 * j)) (setAt 4 (now (table .entry)) (4 * k)))) (now (out .entry)) (now (out .exit)) ⌝ }
-{
-    let mut k = 0;
-    while k < c {
-        store128(out, 2 * k, lower_of(table, k));
-        k += 1;
-    }
-}
 
 pub fn fill_juniors(index: &[u64], standing: Set128, c: usize, out: &mut [u64])
     requires { ⌜ (length (now index) ≡ 256) × (length (now out) ≡ 256) × (c ≤ 128) ⌝ }

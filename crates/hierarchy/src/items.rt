@@ -1,8 +1,5 @@
 // The lowest and the highest item of a set that has one.
-ghost use mathlib.Core.Path.{_≡_};
-ghost use mathlib.Core.Bool.{So};
 ghost use mathlib.Core.Logic.{_≢_};
-ghost use Prim.Native.Nat.{ℕ, _≤_, _<_};
 ghost use Rattle.sets.specs.Held.{set128};
 ghost use Rattle.hierarchy.specs.Tables.{Lowest, Highest};
 use sets::Item;

@@ -6,7 +6,6 @@ mod rows;
 mod sieve;
 
 pub use fill::fill_juniors;
-pub use fill::fill_lower;
 pub use fill::fill_members;
 pub use fill::fill_permissions;
 pub use items::highest_item;

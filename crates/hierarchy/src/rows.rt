@@ -1,6 +1,6 @@
 // The row of one role: immediate juniors, direct permissions, direct members. A role that does not stand has an empty row.
 ghost use mathlib.Core.Path.{_≡_};
-ghost use Prim.Native.Nat.{ℕ, _+_, _*_, _^_, _≤_, _<_};
+ghost use Prim.Native.Nat.{_*_, _^_, _<_};
 ghost use lib.ListN.{length};
 ghost use Rattle.sets.specs.Held.{set128, set256};
 ghost use Rattle.sets.specs.Sets.{has, collect};

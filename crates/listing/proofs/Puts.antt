@@ -10,12 +10,13 @@ use native.Mathlib.Numerals.{add-one}
 use lib.ListN.{length, getD, length-append}
 use Rattle.sets.specs.Sets.{has}
 use Rattle.sets.proofs.Truth.{by-test, if-true, if-false}
+use Rattle.model.specs.Record.{juniorsStart, membersStart, permissionsStart, setsStart}
 use Rattle.model.specs.Lists.{setAt}
 use Rattle.text.specs.Fixed.{comma, lineEnd}
 use Rattle.text.specs.Decimal.{decimal}
 use Rattle.text.specs.Hexadecimal.{hexadecimal}
-use Rattle.text.specs.Stores.{putAt}
-use Rattle.text.proofs.Stores.{putAt-append}
+use Rattle.lists.specs.Stores.{putAt}
+use Rattle.lists.proofs.Stores.{putAt-append}
 use Rattle.text.proofs.Decimals.{length-decimal}
 use Rattle.text.proofs.Hexadecimals.{length-hexadecimal}
 use Rattle.crewtext.specs.Format.{digitsFor}
@@ -75,15 +76,15 @@ field-length size s =
     omega arith
 
 pub line-put : (l l1 l2 l3 l4 l5 l6 : List ℕ) (at r1 r2 r3 r4 r5 r6 : ℕ) (ws : List ℕ) (k : ℕ) → Put l at (decimal k) l1 r1
-    → Put l1 r1 (field (getD ws 1 0) (setAt 4 ws (520 + 4 * k))) l2 r2 → Put l2 r2 (field (getD ws 1 0) (setAt 4 ws (1032 + 4 * k))) l3 r3
-    → Put l3 r3 (field (getD ws 0 0) (setAt 2 ws (1544 + 2 * k))) l4 r4 → Put l4 r4 (field (getD ws 2 0) (setAt 2 ws (1800 + 2 * k))) l5 r5
+    → Put l1 r1 (field (getD ws 1 0) (setAt 4 ws (setsStart + 4 * k))) l2 r2 → Put l2 r2 (field (getD ws 1 0) (setAt 4 ws (permissionsStart + 4 * k))) l3 r3
+    → Put l3 r3 (field (getD ws 0 0) (setAt 2 ws (membersStart + 2 * k))) l4 r4 → Put l4 r4 (field (getD ws 2 0) (setAt 2 ws (juniorsStart + 2 * k))) l5 r5
     → Put l5 r5 lineEnd l6 r6 → Put l at (wordsLine ws k) l6 r6
 unfolding wordsLine line
 line-put l l1 l2 l3 l4 l5 l6 at r1 r2 r3 r4 r5 r6 ws k a b c d e f =
-    let s = field (getD ws 1 0) (setAt 4 ws (520 + 4 * k)) in
-    let p = field (getD ws 1 0) (setAt 4 ws (1032 + 4 * k)) in
-    let u = field (getD ws 0 0) (setAt 2 ws (1544 + 2 * k)) in
-    let j = field (getD ws 2 0) (setAt 2 ws (1800 + 2 * k)) in
+    let s = field (getD ws 1 0) (setAt 4 ws (setsStart + 4 * k)) in
+    let p = field (getD ws 1 0) (setAt 4 ws (permissionsStart + 4 * k)) in
+    let u = field (getD ws 0 0) (setAt 2 ws (membersStart + 2 * k)) in
+    let j = field (getD ws 2 0) (setAt 2 ws (juniorsStart + 2 * k)) in
     put-then _ _ _ _ _ _ (decimal k) (s ++ (p ++ (u ++ (j ++ lineEnd)))) a
     (put-then _ _ _ _ _ _ s (p ++ (u ++ (j ++ lineEnd))) b (put-then _ _ _ _ _ _ p (u ++ (j ++ lineEnd)) c (put-then _ _ _ _ _ _ u (j ++ lineEnd) d (put-then _ _ _ _ _ _ j lineEnd e f))))
 

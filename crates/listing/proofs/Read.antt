@@ -27,7 +27,7 @@ use Rattle.crewtext.specs.Reader.{Answer, Read, given, refusal, afterRows, afte
 use Rattle.crewtext.specs.Reader.Read.{rowsRead, badForm, badBit}
 use Rattle.crewtext.proofs.Laid.{length-laid}
 use Rattle.crewtext.proofs.Canonical.{Accepted, accepted, words-hold}
-use Rattle.text.specs.Stores.{putAt}
+use Rattle.lists.specs.Stores.{putAt}
 use Rattle.call_mine.specs.declared.MineAnswer.{MineAnswer}
 use Rattle.call_mine.specs.Answers.{mined}
 use Rattle.listing.specs.Listing.{Printable, settled, refusedText, rolesText, listed, listing}

@@ -17,7 +17,7 @@ use Rattle.model.specs.Lists.{setAt}
 use Rattle.model.specs.Hierarchy.{Rows, candidateCount, permissionSet, directPermissions, directMembers, immediateJuniors, building}
 use Rattle.model.specs.Quality.{Weights, weightsAllowed, counted, counts, weigh, quality}
 use Rattle.model.specs.State.{State, rolesOf}
-use Rattle.model.specs.Record.{built, stateOf, rowsOf, sound}
+use Rattle.model.specs.Record.{built, stateOf, rowsOf, sound, juniorsStart, membersStart, permissionsStart, setsStart}
 use Rattle.model.specs.Machine.Call.{eliminate, review}
 use Rattle.model.specs.Claim.{wordsAfter}
 use Rattle.model.specs.Calls.{Edited, Told, edit, unfit, told, qualityOf}
@@ -26,7 +26,7 @@ use Rattle.model.proofs.Bounds.{weightsAllowed-iff}
 use Rattle.model.proofs.Claim.{claim, sound-unfit}
 use Rattle.building.proofs.Sources.{narrow}
 use Rattle.reading.specs.Reading.{weightsOf}
-use Rattle.text.specs.Stores.{putAt}
+use Rattle.lists.specs.Stores.{putAt}
 use Rattle.call_eliminate.specs.declared.EliminateAnswer.{EliminateAnswer}
 use Rattle.call_review.specs.declared.ReviewAnswer.{ReviewAnswer}
 use Rattle.call_quality.specs.declared.QualityAnswer.{QualityAnswer}
@@ -68,14 +68,14 @@ built-line st lim k l =
     let few : k < 128 = lt-of-lt-of-le l (lim .candidates-most) in
     let c = read-count st lim in
     let b = rows-back st lim in
-    let s : setAt 4 (built st) (520 + 4 * k) ≡ permissionSet (rolesOf st) k =
+    let s : setAt 4 (built st) (setsStart + 4 * k) ≡ permissionSet (rolesOf st) k =
     read-set st lim k few (lt-of-lt-of-le (narrow st lim .inside k l) (pow-mono (lim .permissions-most))) in
-    let p : setAt 4 (built st) (1032 + 4 * k) ≡ directPermissions (rolesOf st) (st .standing) k =
-    sym (row-set (built st) k (candidateCount (rolesOf st)) (setAt 4 (built st) (1032 + 4 * k)) l c) ∙ ap (λ (x : Rows). x .permissions k) b in
-    let u : setAt 2 (built st) (1544 + 2 * k) ≡ directMembers (rolesOf st) (st .standing) k =
-    sym (row-set (built st) k (candidateCount (rolesOf st)) (setAt 2 (built st) (1544 + 2 * k)) l c) ∙ ap (λ (x : Rows). x .members k) b in
-    let j : setAt 2 (built st) (1800 + 2 * k) ≡ immediateJuniors (rolesOf st) (st .standing) k =
-    sym (row-set (built st) k (candidateCount (rolesOf st)) (setAt 2 (built st) (1800 + 2 * k)) l c) ∙ ap (λ (x : Rows). x .juniors k) b in
+    let p : setAt 4 (built st) (permissionsStart + 4 * k) ≡ directPermissions (rolesOf st) (st .standing) k =
+    sym (row-set (built st) k (candidateCount (rolesOf st)) (setAt 4 (built st) (permissionsStart + 4 * k)) l c) ∙ ap (λ (x : Rows). x .permissions k) b in
+    let u : setAt 2 (built st) (membersStart + 2 * k) ≡ directMembers (rolesOf st) (st .standing) k =
+    sym (row-set (built st) k (candidateCount (rolesOf st)) (setAt 2 (built st) (membersStart + 2 * k)) l c) ∙ ap (λ (x : Rows). x .members k) b in
+    let j : setAt 2 (built st) (juniorsStart + 2 * k) ≡ immediateJuniors (rolesOf st) (st .standing) k =
+    sym (row-set (built st) k (candidateCount (rolesOf st)) (setAt 2 (built st) (juniorsStart + 2 * k)) l c) ∙ ap (λ (x : Rows). x .juniors k) b in
     λ i. line (read-users st lim i) (read-permissions st lim i) (c i) k (s i) (p i) (u i) (j i)
 
 lines-same : (R : ℕ) (f g : ℕ → List ℕ) (k : ℕ) → ((i : ℕ) → i < k → f i ≡ g i) → linesTo R f k ≡ linesTo R g k

@@ -6,7 +6,7 @@ ghost use lib.ListN.{length};
 ghost use Rattle.model.specs.Lists.{rowsAt};
 ghost use Rattle.model.specs.State.{withinLimits, rowsWithin};
 ghost use Rattle.model.specs.Record.{built, stateOf, sound};
-ghost use Rattle.text.specs.Stores.{putAt};
+ghost use Rattle.lists.specs.Stores.{putAt};
 ghost use Rattle.listing.specs.Listing.{listed, listing, settled};
 ghost use Rattle.listing.specs.Words.{mostBytes};
 
@@ -19,6 +19,7 @@ use panel::panel_eliminate;
 use panel::panel_mine;
 use panel::panel_read_crew;
 use panel::panel_review;
+use tables::LENGTH;
 
 // More than any text's roles need.
 pub const MOST: usize = 32768;
@@ -37,7 +38,7 @@ fn list_crew(n: u64, m: u64, crew: &[u64], out: &mut [u8]) -> usize
     requires { ⌜ So (withinLimits n m) × (length (now crew) ≡ 4 * n) × So (rowsWithin m (rowsAt n (now crew) 0)) × (mostBytes ≤ length (now out)) ⌝ }
     ensures { λ r. ⌜ (r ≡ length (listed n m (rowsAt n (now (crew .entry)) 0))) × (now (out .exit) ≡ putAt (now (out .entry)) 0 (listed n m (rowsAt n (now (crew .entry)) 0))) × (r ≤ mostBytes) ⌝ }
 {
-    let mut rec = [0u64; 2056];
+    let mut rec = [0u64; LENGTH];
     let mined = panel_mine(n, m, crew, &mut rec);
     if mined.code != 0 {
         return put_refused(out, mined.code);

@@ -3,7 +3,7 @@ ghost use mathlib.Core.Path.{_≡_};
 ghost use Prim.Native.Nat.{_+_, _<_, _≤_};
 ghost use lib.ListN.{length, getD};
 ghost use Rattle.model.specs.Lists.{setAt};
-ghost use Rattle.text.specs.Stores.{putAt};
+ghost use Rattle.lists.specs.Stores.{putAt};
 ghost use Rattle.crewtext.specs.Format.{digitsFor};
 ghost use Rattle.listing.specs.Listing.{field};
 ghost use Rattle.listing.specs.Words.{Limited, wordsLine, standingLine, wordsLines};

@@ -1,66 +1,48 @@
-// Reads texts from standard input and prints what the lister prints for each.
-// A text stands after a line with its length in four hexadecimal digits, as `001f`.
-ghost use mathlib.Core.Path.{_≡_};
-ghost use lib.ListN.{length};
-use libc::STDIN_FILENO;
+// What the lister prints for each of many crew texts: the files 000, 001 and so on, until one is missing.
 use libc::STDOUT_FILENO;
-use text::has_hexadecimal;
-use text::read_hexadecimal;
 
 const MOST_TEXTS: u64 = 1000;
 
-// One more than the lister reads.
-const LONGEST: usize = 16386;
+// A byte more than the longest crew text, as the lister reads.
+const SPACE: usize = 16385;
 
-fn space() -> [u8; LONGEST]
-    ensures { λ r. ⌜ 16386 ≡ length r ⌝ }
-{
-    [0; LONGEST]
+fn digit(n: u64) -> u8 {
+    (n % 10) as u8 + b'0'
 }
 
-fn show(text: &[u8]) {
+// The listing of what the file holds.
+fn show(file: i32) {
+    let mut text = [0u8; SPACE];
     let mut out = [0u8; listing::MOST];
-    let end = listing::list_roles(text, &mut out);
+    let n = io::read_full(file, &mut text);
+    let end = listing::list_roles(&text[..n], &mut out);
     io::write_all(STDOUT_FILENO, &out[..end]);
 }
 
-// The length in the next line, or one that no text has.
-fn next_length() -> usize {
-    let mut line = [0u8; 5];
-    if io::read_full(STDIN_FILENO, &mut line) != 5 {
-        return LONGEST + 1;
-    }
-    if !has_hexadecimal(&line, 0, 4) {
-        return LONGEST + 1;
-    }
-    read_hexadecimal(&line, 0, 4).word(0) as usize
-}
-
-// Whether the whole text was there.
-fn run(text: &mut [u8]) -> bool {
-    if io::read_full(STDIN_FILENO, text) != text.len() {
+// A line with the file's name, and then its listing. Whether there is such a file.
+fn run(number: u64) -> bool {
+    let name = [
+        digit(number / 100),
+        digit(number / 10),
+        digit(number),
+        b'\n',
+    ];
+    let file = os::open_read(&name[..3]);
+    if file < 0 {
         return false;
     }
-    show(text);
+    io::write_all(STDOUT_FILENO, &name);
+    show(file);
+    libc::close(file);
     true
 }
 
-// Whether there was another text.
-fn run_one() -> bool {
-    let size = next_length();
-    if LONGEST < size {
-        return false;
-    }
-    let mut text = space();
-    run(&mut text[..size])
-}
-
 fn main() {
-    let mut left = MOST_TEXTS;
-    while left > 0 {
-        if !run_one() {
+    let mut number = 0u64;
+    while number < MOST_TEXTS {
+        if !run(number) {
             return;
         }
-        left -= 1;
+        number += 1;
     }
 }

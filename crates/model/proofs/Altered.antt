@@ -1,20 +1,17 @@
 -- Of all words of the record built afresh, a strike or a restoration alters only those that the paper allows.
 -- Assumes nothing.
-use mathlib.Core.Path.{_≡_, refl, sym, _∙_, ap, ap₂}
-use mathlib.Core.Bool.{Bool, true, false, So}
+use mathlib.Core.Path.{_≡_, refl, sym, _∙_, ap}
+use mathlib.Core.Bool.{So}
 use mathlib.Core.Logic.{_↔_, _≢_, _⊎_, ⊎-elim}
-use mathlib.Core.List.{List}
-use Prim.Native.Nat.{ℕ, zero, suc, _+_, _*_, _<_, _≤_}
+use Prim.Native.Nat.{ℕ, zero, suc, _+_, _*_, _<_}
 use native.Mathlib.Nat.{lt-irrefl}
 use native.Mathlib.Omega.{arith}
 use lib.Dec.{eqb, leb, ltb}
-use lib.ListN.{getD}
-use Rattle.sets.specs.Truth.{_and_, _or_}
+use Rattle.sets.specs.Truth.{_or_}
 use Rattle.sets.specs.Sets.{has, _∖_, single}
 use Rattle.sets.specs.Words.{word}
-use Rattle.sets.proofs.Truth.{by-test, same-test, and-iff, or-iff, eqb-iff, leb-iff, ltb-iff, either, equal-or}
-use Rattle.model.specs.Lists.{setAt}
-use Rattle.model.specs.Hierarchy.{Roles, candidateCount, permissionSet, immediatelySenior, immediateJuniors, directPermissions, directMembers}
+use Rattle.sets.proofs.Truth.{same-test, and-iff, or-iff, eqb-iff, leb-iff, ltb-iff, either}
+use Rattle.model.specs.Hierarchy.{Roles, candidateCount, immediatelySenior, immediateJuniors, directPermissions, directMembers}
 use Rattle.model.specs.State.{State, rolesOf, standingNow}
 use Rattle.model.specs.Record.{recordLength, permissionsStart, membersStart, juniorsStart, headerWord, wordAt, built}
 use Rattle.model.specs.Altered.{inside, rowWord, concerned, Altered}
@@ -61,7 +58,7 @@ concerned-iff ρ R k r = (
       (λ s. ⊎-elim (λ a. _⊎_.inl (or-iff (eqb r k) (immediatelySenior ρ R r k) .1 (_⊎_.inr a))) (λ b. _⊎_.inr b) s) d),
 )
 
-same-head : (st : State) (R i : ℕ) → i ≢ 4 → i ≢ 5 → headerWord st i ≡ headerWord (standingNow st R) i
+pub same-head : (st : State) (R i : ℕ) → i ≢ 4 → i ≢ 5 → headerWord st i ≡ headerWord (standingNow st R) i
 unfolding headerWord standingNow rolesOf
 same-head st R zero d4 d5 = refl
 same-head st R (suc zero) d4 d5 = refl

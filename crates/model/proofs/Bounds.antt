@@ -1,7 +1,7 @@
 -- How large the counts and the quality can become: every product of the machine stays far below 2^64.
 -- Assumes nothing.
 use mathlib.Core.Path.{_≡_}
-use mathlib.Core.Bool.{Bool, So}
+use mathlib.Core.Bool.{So}
 use mathlib.Core.Logic.{_↔_}
 use Prim.Native.Nat.{ℕ, zero, suc, _+_, _*_, _<_, _≤_, _^_}
 use native.Mathlib.Nat.{le-trans, mul-le-mul, le-refl, le-of-eq, not-suc-le-zero, mul-suc, suc-mul}
@@ -15,11 +15,11 @@ use Rattle.sets.proofs.Truth.{not-So, and-iff, leb-iff}
 use Rattle.sets.proofs.Items.{below-of-items}
 use Rattle.sets.proofs.Counts.{total-suc, total-≤, total-bound, total-zero}
 use Rattle.model.specs.Hierarchy.{Roles, candidateCount, immediateJuniors, directPermissions, directMembers, building}
-use Rattle.model.specs.Quality.{Weights, Counts, weightsAllowed, counted, counts, weigh, quality}
+use Rattle.model.specs.Quality.{Weights, Counts, weightsAllowed, counted, counts, weigh}
 use Rattle.model.specs.Machine.{Tolerance, toleranceAllowed}
 use Rattle.model.proofs.Reading.{Ordered, immediate-iff, junior-iff}
 use Rattle.model.proofs.Building.{senior-lower}
-use Rattle.model.proofs.Record.{immediateJuniors-lt, directPermissions-lt, directMembers-lt}
+use Rattle.model.proofs.Record.{directPermissions-lt, directMembers-lt}
 
 pub weightsAllowed-iff : (w : Weights)
     → So (weightsAllowed w) ↔ ((w .perRole ≤ 1000) × (w .perMember ≤ 1000) × (w .perPermission ≤ 1000) × (w .perLink ≤ 1000))

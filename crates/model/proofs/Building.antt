@@ -1,25 +1,25 @@
 -- The building of a standing set: no chain returns to its start, no link could be replaced by a chain, every senior and junior are joined
 -- by a chain, and authorised means covered.
 -- Assumes nothing.
-use mathlib.Core.Path.{_≡_, refl, sym, _∙_, ap}
-use mathlib.Core.Bool.{Bool, true, false, So}
+use mathlib.Core.Path.{_≡_, refl}
+use mathlib.Core.Bool.{Bool, So}
 use mathlib.Core.Logic.{_↔_, _≢_, _⊎_, ⊎-elim}
-use Prim.Native.Nat.{ℕ, zero, suc, _+_, _<_, _≤_, _^_}
-use native.Mathlib.Nat.{lt-irrefl, lt-trans}
+use Prim.Native.Nat.{ℕ, zero, suc, _+_, _<_, _≤_}
+use native.Mathlib.Nat.{lt-irrefl}
 use native.Mathlib.Omega.{arith}
 use lib.Dec.{eqb}
 use lib.ListN.{getD}
 use Rattle.sets.specs.Truth.{_and_, isnt}
-use Rattle.sets.specs.Sets.{has, subset, properSubset}
-use Rattle.sets.proofs.Truth.{and-iff, isnt-iff, eqb-iff, equal-or, find}
+use Rattle.sets.specs.Sets.{has}
+use Rattle.sets.proofs.Truth.{and-iff, isnt-iff, eqb-iff, find}
 use Rattle.sets.proofs.Items.{item-below, empty-of}
-use Rattle.sets.proofs.Order.{subset-iff, subset-trans, proper-iff, proper-subset, proper-trans}
-use Rattle.model.specs.Hierarchy.{Roles, Rows, candidateCount, permissionSet, authorisedUsers, senior, immediatelySenior, immediateJuniors, directPermissions, directMembers, building}
-use Rattle.model.specs.Chains.{link, Chain, other, Reaches, may, Authorised}
+use Rattle.sets.proofs.Order.{subset-iff, subset-trans, proper-subset, proper-trans}
+use Rattle.model.specs.Hierarchy.{Roles, candidateCount, permissionSet, authorisedUsers, senior, immediatelySenior, immediateJuniors, directPermissions, directMembers, building}
+use Rattle.model.specs.Chains.{link, Chain, other, Reaches, may}
 use Rattle.model.specs.Chains.Chain.{one, more}
-use Rattle.model.specs.Coverage.{grant, covers, covered, allCovered}
+use Rattle.model.specs.Coverage.{grant, covered, allCovered}
 use Rattle.model.proofs.Reading.{Ordered, user-iff, covers-iff, covered-iff, allCovered-iff, senior-iff, immediate-iff, junior-iff, permission-iff, member-iff}
-use Rattle.model.proofs.Chains.{RowsBelow, chain-append, reaches-chain, may-iff}
+use Rattle.model.proofs.Chains.{RowsBelow, chain-append, may-iff}
 
 -- "Roles outside R have zero rows"
 module _ (ρ : Roles) (R k : ℕ) (absent : So (has R k) → ⊥) where
@@ -47,6 +47,9 @@ module _ (ρ : Roles) (R : ℕ) (o : Ordered ρ R) where
 
   pub senior-lower : (k j : ℕ) → So (senior ρ R k j) → j < k
   senior-lower k j h = let a = senior-iff ρ R k j .0 h in o .lower j k (stands-below j (a .1)) (stands-below k (a .0)) (a .2)
+
+  pub senior-differs : (k j : ℕ) → So (senior ρ R k j) → k ≢ j
+  senior-differs k j h e = lt-irrefl j (rw e at (senior-lower k j h))
 
   pub senior-stands : (k j : ℕ) → So (senior ρ R k j) → So (has R k) × So (has R j)
   senior-stands k j h = let a = senior-iff ρ R k j .0 h in (a .0, a .1)

@@ -8,7 +8,7 @@ use Rattle.model.specs.Hierarchy.{Roles, immediateJuniors, directPermiss
 use Rattle.model.specs.Quality.{Weights, quality}
 use Rattle.model.specs.Lists.{tabulate}
 use Rattle.model.specs.State.{State, rolesOf, fresh}
-use Rattle.model.specs.Machine.{Call, Tolerance, Answer, answer, stateAfter, answersTo, step}
+use Rattle.model.specs.Machine.{Tolerance, answer, stateAfter, answersTo}
 use Rattle.model.specs.Machine.Call.{strike, restore, eliminate, review}
 use Rattle.model.proofs.Everything.{everything}
 

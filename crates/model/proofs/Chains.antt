@@ -1,21 +1,20 @@
 -- Chains and reach over any relation on indices, circles included: what is computed agrees with the paper's words.
 -- Assumes nothing.
-use mathlib.Core.Path.{_≡_, refl, sym, _∙_, ap}
-use mathlib.Core.Bool.{Bool, true, false, So}
-use mathlib.Core.Logic.{_↔_, _≢_, _⊎_, ⊎-elim}
+use mathlib.Core.Path.{_≡_, refl, sym, ap}
+use mathlib.Core.Bool.{Bool, So}
+use mathlib.Core.Logic.{_↔_, _⊎_, ⊎-elim}
 use Prim.Native.Nat.{ℕ, zero, suc, _<_, _≤_, _^_}
-use native.Mathlib.Nat.{le-trans, lt-irrefl, not-suc-le-self}
+use native.Mathlib.Nat.{le-trans, not-suc-le-self}
 use native.Mathlib.Omega.{arith}
-use lib.Dec.{eqb}
 use lib.Count.{ones, ones-le}
-use Rattle.sets.specs.Truth.{_and_, isnt, any}
-use Rattle.sets.specs.Sets.{has, _∪_, subset, properSubset, collect}
-use Rattle.sets.proofs.Truth.{and-iff, isnt-iff, any-iff, eqb-iff, equal-or}
+use Rattle.sets.specs.Truth.{_and_, any}
+use Rattle.sets.specs.Sets.{has, _∪_, collect}
+use Rattle.sets.proofs.Truth.{and-iff, any-iff, equal-or}
 use Rattle.sets.proofs.Items.{item-below}
 use Rattle.sets.proofs.Order.{∪-iff, ∪-lt, collect-iff, collect-lt, subset-iff, proper-iff}
 use Rattle.sets.proofs.Counts.{ones-proper}
 use Rattle.model.specs.Hierarchy.{Rows}
-use Rattle.model.specs.Chains.{link, Chain, other, Reaches, onward, follow, reached, directRoles, rolesReached, may, Authorised}
+use Rattle.model.specs.Chains.{link, Chain, Reaches, onward, follow, reached, directRoles, rolesReached, may, Authorised}
 use Rattle.model.specs.Chains.Chain.{one, more}
 
 module _ (joined : ℕ → ℕ → Bool) where

@@ -1,23 +1,21 @@
 -- Striking a role, and restoring it: what stays covered, and which rows differ. R is the standing set with the role k in it: before a strike,
 -- after a restoration.
 -- Assumes nothing.
-use mathlib.Core.Path.{_≡_, refl, sym, _∙_, ap}
-use mathlib.Core.Bool.{Bool, true, false, So}
+use mathlib.Core.Path.{_≡_, refl, sym}
+use mathlib.Core.Bool.{So}
 use mathlib.Core.Logic.{_↔_, _≢_, _⊎_, ⊎-elim}
-use Prim.Native.Nat.{ℕ, zero, suc, _+_, _<_, _≤_, _^_}
+use Prim.Native.Nat.{ℕ, _<_}
 use native.Mathlib.Nat.{lt-irrefl}
 use native.Mathlib.Omega.{arith}
-use lib.Dec.{eqb}
-use lib.ListN.{getD}
-use Rattle.sets.specs.Truth.{_and_, isnt}
-use Rattle.sets.specs.Sets.{has, _∪_, _∖_, single, subset, properSubset}
-use Rattle.sets.proofs.Truth.{by-test, same-test, So-not, and-iff, equal-or, find}
-use Rattle.sets.proofs.Items.{same-set}
-use Rattle.sets.proofs.Order.{subset-iff, ∖-iff, ∪-iff, ∖-lt, ∪-lt, single-iff, single-lt, proper-irrefl}
+use Rattle.sets.specs.Truth.{_and_}
+use Rattle.sets.specs.Sets.{has, _∪_, _∖_, single, subset}
+use Rattle.sets.proofs.Truth.{by-test, So-not, and-iff, equal-or, find}
+use Rattle.sets.proofs.Items.{same-set, has-zero}
+use Rattle.sets.proofs.Order.{subset-iff, ∖-iff, ∪-iff, ∖-lt, ∪-lt, single-iff, single-lt}
 use Rattle.model.specs.Hierarchy.{Roles, candidateCount, permissionSet, authorisedUsers, senior, immediatelySenior, immediateJuniors, directPermissions, directMembers}
-use Rattle.model.specs.Coverage.{grant, covers, covered, allCovered, strikable}
-use Rattle.model.proofs.Reading.{Ordered, user-iff, covers-iff, covered-iff, allCovered-iff, strikable-iff, strikable-stands, senior-iff, immediate-iff, junior-iff, permission-iff, member-iff}
-use Rattle.model.proofs.Building.{stands-below, senior-trans, senior-lower, senior-stands, senior-permission, senior-user}
+use Rattle.model.specs.Coverage.{grant, covered, allCovered, strikable}
+use Rattle.model.proofs.Reading.{Ordered, covers-iff, covered-iff, allCovered-iff, strikable-iff, senior-iff, immediate-iff, junior-iff, permission-iff, member-iff}
+use Rattle.model.proofs.Building.{stands-below, senior-trans, senior-lower, senior-stands, senior-permission, senior-user, senior-differs}
 
 -- ---- coverage
 
@@ -149,9 +147,6 @@ module _ (ρ : Roles) (R : ℕ) (o : Ordered ρ R) where
           senior-iff ρ (R ∖ single k) i j .1 (stands-other i .1 (a .0, f .1), stands-other j .1 (a .1, f .2), a .2),
     )
 
-    above-other : (i j : ℕ) → So (senior ρ R i j) → i ≢ j
-    above-other i j s e = lt-irrefl j (rw e at (senior-lower ρ R o i j s))
-
     pub struck-absent : So (has (R ∖ single k) k) → ⊥
     struck-absent h = stands-other k .0 h .1 refl
 
@@ -176,11 +171,11 @@ module _ (ρ : Roles) (R : ℕ) (o : Ordered ρ R) where
         let q : So (senior ρ R k j) = rw d at (w .2) in
         _⊎_.inr (
           immediate-iff ρ R i k .1
-              (p, λ t l x y. a .1 t l (senior-other i t .1 (x, s .1, above-other t k y)) (senior-other t j .1 (senior-trans ρ R o t k j y q, above-other t k y, s .2))),
+              (p, λ t l x y. a .1 t l (senior-other i t .1 (x, s .1, senior-differs ρ R o t k y)) (senior-other t j .1 (senior-trans ρ R o t k j y q, senior-differs ρ R o t k y, s .2))),
           immediate-iff ρ R k j .1 (
             q,
             λ t l x y.
-                a .1 t l (senior-other i t .1 (senior-trans ρ R o i k t p x, s .1, λ e. above-other k t x (sym e))) (senior-other t j .1 (y, (λ e. above-other k t x (sym e)), s .2)),
+                a .1 t l (senior-other i t .1 (senior-trans ρ R o i k t p x, s .1, λ e. senior-differs ρ R o k t x (sym e))) (senior-other t j .1 (y, (λ e. senior-differs ρ R o k t x (sym e)), s .2)),
           ),
         ))
         (λ d.
@@ -214,7 +209,7 @@ module _ (ρ : Roles) (R : ℕ) (o : Ordered ρ R) where
               let q' : So (has (permissionSet ρ k) p) = rw e at q in
               let w = between i k s' d in
               a .3 (w .0) (stands-below ρ R o (w .0) (senior-stands ρ R o i (w .0) (w .1) .1))
-              (senior-other i (w .0) .1 (w .1, di, above-other (w .0) k (w .2))) (senior-permission ρ R o (w .0) k p (w .2) q'))
+              (senior-other i (w .0) .1 (w .1, di, senior-differs ρ R o (w .0) k (w .2))) (senior-permission ρ R o (w .0) k p (w .2) q'))
               (λ dj. a .3 j l (senior-other i j .1 (s, di, dj)) q),
         ))
         (λ p t.
@@ -238,7 +233,36 @@ module _ (ρ : Roles) (R : ℕ) (o : Ordered ρ R) where
               let q' : So (has (authorisedUsers ρ k) u) = rw e at q in
               let w = between k j s' d in
               a .3 (w .0) (stands-below ρ R o (w .0) (senior-stands ρ R o k (w .0) (w .1) .1))
-              (senior-other (w .0) j .1 (w .2, (λ e. above-other k (w .0) (w .1) (sym e)), dj)) (senior-user ρ R o k (w .0) u (w .1) q'))
+              (senior-other (w .0) j .1 (w .2, (λ e. senior-differs ρ R o k (w .0) (w .1) (sym e)), dj)) (senior-user ρ R o k (w .0) u (w .1) q'))
+              (λ di. a .3 i l (senior-other i j .1 (s, di, dj)) q),
+        ))
+        (λ u t.
+        let a = member-iff ρ R j u .0 t in
+        member-iff ρ (R ∖ single k) j u .1 (a .0, stands-other j .1 (a .1, dj), a .2, λ i l s q. a .3 i l (senior-other i j .0 s .0) q))
+
+    -- where k has no direct members, those of all others are the same: whoever becomes direct elsewhere was direct with k
+    pub members-kept : directMembers ρ R k ≡ 0 → (j : ℕ) → j ≢ k → directMembers ρ (R ∖ single k) j ≡ directMembers ρ R j
+    members-kept none j dj =
+        same-set (directMembers ρ (R ∖ single k) j) (directMembers ρ R j)
+        (λ u t.
+        let a = member-iff ρ (R ∖ single k) j u .0 t in
+        member-iff ρ R j u .1 (
+          a .0,
+          stands-other j .0 (a .1) .0,
+          a .2,
+          λ i l s q.
+              equal-or i k
+              (λ (e : i ≡ k).
+              let s' : So (senior ρ R k j) = rw e at s in
+              let q' : So (has (authorisedUsers ρ k) u) = rw e at q in
+              let own : So (has (directMembers ρ R k) u) =
+              member-iff ρ R k u .1 (
+                a .0,
+                senior-stands ρ R o k j s' .0,
+                q',
+                λ h lh sh qh. a .3 h lh (senior-other h j .1 (senior-trans ρ R o h k j sh s', senior-differs ρ R o h k sh, dj)) qh,
+              ) in
+              So-not (has-zero u) (rw none at own))
               (λ di. a .3 i l (senior-other i j .1 (s, di, dj)) q),
         ))
         (λ u t.

@@ -1,32 +1,31 @@
 -- Every clause of condition 3 holds of every list of calls from every sound record, where each call does what its definition says.
 -- Assumes nothing.
 use mathlib.Core.Path.{_≡_, refl, sym, _∙_, ap, ap₂, subst}
-use mathlib.Core.Bool.{Bool, true, false, So}
-use mathlib.Core.Logic.{_↔_, _≢_, _⊎_, ⊎-elim}
+use mathlib.Core.Bool.{So}
+use mathlib.Core.Logic.{_↔_, _≢_}
 use mathlib.Core.List.{List, [], _∷_, _++_}
-use Prim.Native.Nat.{ℕ, zero, suc, _<_, _≤_, _^_}
-use native.Mathlib.Omega.{arith}
+use Prim.Native.Nat.{ℕ, _<_}
 use lib.Dec.{eqb}
 use lib.ListN.{length, getD}
 use Rattle.sets.specs.Truth.{isnt, if_then_else_}
 use Rattle.sets.specs.Sets.{has, _∪_, _∖_, single}
 use Rattle.sets.proofs.Truth.{by-test, So-not, not-So, isnt-iff, eqb-iff, if-true, if-false}
 use Rattle.sets.proofs.Order.{with-without}
-use Rattle.model.specs.Hierarchy.{Rows, candidateCount, building}
-use Rattle.model.specs.Chains.{link, Chain, other, may, Authorised}
-use Rattle.model.specs.Coverage.{grant, allCovered}
+use Rattle.model.specs.Hierarchy.{candidateCount, building}
+use Rattle.model.specs.Chains.{link, Chain, other, Authorised}
+use Rattle.model.specs.Coverage.{grant}
 use Rattle.model.specs.State.{State, rolesOf, standingNow}
 use Rattle.model.specs.Record.{recordLength, built, stateOf, rowsOf, sound}
 use Rattle.model.specs.Altered.{Altered}
-use Rattle.model.specs.Machine.{Call, Answer, Outcome, answer, refusal, accepted, step, stateAfter, answersTo}
+use Rattle.model.specs.Machine.{Call, Answer, Outcome, refusal, accepted, step, stateAfter, answersTo}
 use Rattle.model.specs.Machine.Call.{strike, restore}
 use Rattle.model.specs.Calls.{unfit, Edited, edit}
 use Rattle.model.specs.Claim.{wordsAfter, answersGiven, Kept}
 use Rattle.model.proofs.Chains.{may-iff}
 use Rattle.model.proofs.Building.{building-below, granted-may, may-possible, no-return, no-replacement}
-use Rattle.model.proofs.Record.{Limits, sound-iff, sound-built, state-back, rows-back, built-sound}
+use Rattle.model.proofs.Record.{sound-iff, sound-built, state-back, rows-back, built-sound}
 use Rattle.model.proofs.Altered.{strike-altered, restore-altered}
-use Rattle.model.proofs.Steps.{limits-ordered, limits-now, roles-now, standing-now, now-now, now-same, step-accepted, step-refused, step-code, restore-accepted, Fit, step-fit, after-fit, after-rows}
+use Rattle.model.proofs.Steps.{state-append, limits-ordered, roles-now, standing-now, now-now, now-same, step-accepted, step-refused, step-code, restore-accepted, Fit, step-fit, after-fit, after-rows}
 
 -- a sound record's state is within the limits and covers each grant, and conversely
 pub sound-fit : (ws : List ℕ) → So (sound ws) → Fit (stateOf ws)
@@ -95,11 +94,6 @@ after-append : (ws : List ℕ) (calls : List Call) (call : Call) → wordsAfter 
 unfolding wordsAfter
 after-append ws [] call = refl
 after-append ws (first ∷ calls) call = after-append (edit ws first .words) calls call
-
-state-append : (st : State) (calls : List Call) (call : Call) → stateAfter st (calls ++ (call ∷ [])) ≡ step (stateAfter st calls) call .state
-unfolding stateAfter
-state-append st [] call = refl
-state-append st (first ∷ calls) call = state-append (step st first .state) calls call
 
 -- ---- authorised, chains and links, read off a sound record's own words
 

@@ -1,11 +1,10 @@
 -- Elimination: it is a list of accepted strikes, what holds when it ends, that it ends by itself, and how many roles it takes up.
 -- Assumes nothing.
-use mathlib.Core.Path.{_≡_, refl, sym, _∙_, ap, ap₂}
-use mathlib.Core.Bool.{Bool, true, false, So}
-use mathlib.Core.Logic.{_↔_, _≢_, _⊎_, ⊎-elim}
+use mathlib.Core.Path.{_≡_, refl, sym, _∙_, ap}
+use mathlib.Core.Bool.{false, So}
+use mathlib.Core.Logic.{_≢_}
 use Prim.Native.Nat.{ℕ, zero, suc, _+_, _*_, _<_, _≤_, _^_, zero-le}
-use native.Mathlib.Nat.{lt-irrefl, le-refl, le-trans, not-suc-le-zero, not-suc-le-self, add-suc, suc-add, add-zero, zero-mul, suc-mul, mul-suc, mul-comm, mul-add, mul-one, zero-add}
-use native.Mathlib.Numerals.{add-one}
+use native.Mathlib.Nat.{le-refl, le-trans, not-suc-le-zero, add-suc, suc-add, add-zero, suc-mul, mul-suc, zero-add}
 use native.Mathlib.Omega.{arith}
 use lib.Dec.{eqb, ltb}
 use lib.Count.{ones, ones-le}

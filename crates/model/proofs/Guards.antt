@@ -1,6 +1,6 @@
 -- Small crew lists that tell the right machine from a wrong reading of it, and one computed test over them all.
 -- Assumes nothing.
-use mathlib.Core.Path.{_≡_, refl}
+use mathlib.Core.Path.{refl}
 use mathlib.Core.Bool.{Bool, true, false, So}
 use mathlib.Core.List.{List, [], _∷_}
 use Prim.Native.Nat.{ℕ}
@@ -8,9 +8,9 @@ use lib.Dec.{eqb}
 use lib.ListN.{length}
 use Rattle.sets.specs.Truth.{_and_}
 use Rattle.model.specs.Quality.{Weights}
-use Rattle.model.specs.State.{State, fresh}
-use Rattle.model.specs.Machine.{Call, Tolerance, Answer, answer, stateAfter, answersTo}
-use Rattle.model.specs.Machine.Call.{strike, restore, eliminate, review}
+use Rattle.model.specs.State.{fresh}
+use Rattle.model.specs.Machine.{Call, Answer, answer, stateAfter, answersTo}
+use Rattle.model.specs.Machine.Call.{strike, eliminate, review}
 use Rattle.model.proofs.Everything.{everything}
 
 -- a crew list with m permissions, calls on its freshly mined state, the right answers and the standing set after them

@@ -8,14 +8,14 @@ use native.Mathlib.Omega.{arith}
 use lib.ListN.{length, getD}
 use Rattle.sets.specs.Sets.{has, _∩_, subset}
 use Rattle.sets.proofs.Truth.{So-not, equal-or}
-use Rattle.sets.proofs.Items.{has-zero, empty-of}
+use Rattle.sets.proofs.Items.{has-zero, item-below, empty-of}
 use Rattle.sets.proofs.Order.{∩-iff, ∩-subset-left, ∩-subset-right, subset-iff, subset-refl, proper-iff}
 use Rattle.model.specs.Candidates.{candidates}
-use Rattle.model.specs.Hierarchy.{candidateCount, permissionSet}
+use Rattle.model.specs.Hierarchy.{candidateCount, permissionSet, authorisedUsers}
 use Rattle.model.specs.Indexes.{rolesOfUser, rolesOfPermission}
 use Rattle.model.specs.State.{State, rolesOf}
 use Rattle.model.proofs.Growing.{listed-at}
-use Rattle.model.proofs.Candidates.{candidates-table, proper-lower, row-candidate}
+use Rattle.model.proofs.Candidates.{candidates-table, proper-lower, row-candidate, candidate-iff, candidate-within}
 use Rattle.model.proofs.Reading.{user-iff}
 use Rattle.model.proofs.Record.{Limits}
 use Rattle.model.proofs.Shortcuts.{rolesOfUser-iff, rolesOfPermission-iff}
@@ -97,3 +97,34 @@ last-role st lim u e there most k =
       λ t. let a = rolesOfUser-iff ρ u k .0 t in (a .0, rw same (user-iff ρ k u .0 (a .1) .1)),
       λ f. rolesOfUser-iff ρ u k .1 (f .0, user-iff ρ k u .1 (v .0, rw same at (f .1))),
     )
+
+-- a candidate is the intersection of the rows that contain it: another one that every such person holds lies within it. One person for each row
+-- is enough
+pub shared-lower : (st : State) → Limits st → (k : ℕ) → k < candidateCount (rolesOf st) → (us : ℕ)
+    → ((u : ℕ) → So (has (authorisedUsers (rolesOf st) k) u) → (v : ℕ) × So (has us v) × (getD (st .rows) v 0 ≡ getD (st .rows) u 0) × (v < st .users))
+    → (j : ℕ) → j < candidateCount (rolesOf st) → ((v : ℕ) → v < st .users → So (has us v) → So (subset (permissionSet (rolesOf st) k) (getD (st .rows) v 0)) → So (subset (permissionSet (rolesOf st) j) (getD (st .rows) v 0)))
+    → So (subset (permissionSet (rolesOf st) j) (permissionSet (rolesOf st) k))
+unfolding candidateCount permissionSet rolesOf
+shared-lower st lim k lk us speaks j lj all =
+    let ρ = rolesOf st in
+    let xs = candidates (st .rows) in
+    let a = permissionSet ρ j in
+    let b = permissionSet ρ k in
+    let meet = candidate-iff (st .rows) b .0 (listed-at xs k lk) .1 in
+    subset-iff a b .1
+    (λ p h.
+    meet .exactly p .1
+    (λ u t.
+    let lu : u < st .users = rw (lim .rows-count) at (item-below (length (st .rows)) (meet .persons) u (meet .within) t) in
+    let within : So (subset b (getD (st .rows) u 0)) = subset-iff b (getD (st .rows) u 0) .1 (λ q g. meet .exactly q .0 g u t) in
+    let w = speaks u (user-iff ρ k u .1 (lu, within)) in
+    let same : getD (st .rows) (w .0) 0 ≡ getD (st .rows) u 0 = w .2 in
+    let holds : So (subset a (getD (st .rows) (w .0) 0)) = all (w .0) (w .3) (w .1) (rw same within) in
+    rw same at (subset-iff a (getD (st .rows) (w .0) 0) .0 holds p h)))
+
+-- and there is such a person
+pub someone : (st : State) → Limits st → (k : ℕ) → k < candidateCount (rolesOf st) → (u : ℕ) × So (has (authorisedUsers (rolesOf st) k) u)
+unfolding candidateCount permissionSet rolesOf
+someone st lim k lk =
+    let w = candidate-within (st .rows) (getD (candidates (st .rows)) k 0) (listed-at (candidates (st .rows)) k lk) in
+    (w .0, user-iff (rolesOf st) k (w .0) .1 (rw (lim .rows-count) at (w .1), w .2))

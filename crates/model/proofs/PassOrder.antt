@@ -1,22 +1,22 @@
 -- The order of a pass: the roles of a worklist, each once, larger key first and ties by lower number.
 -- Assumes nothing.
-use mathlib.Core.Path.{_≡_, refl, sym, _∙_, ap, ap₂}
-use mathlib.Core.Bool.{Bool, true, false, So}
+use mathlib.Core.Path.{_≡_, refl, sym, _∙_, ap}
+use mathlib.Core.Bool.{Bool, So}
 use mathlib.Core.Logic.{_↔_, _≢_, _⊎_, ⊎-elim}
 use mathlib.Core.List.{List, [], _∷_}
-use Prim.Native.Nat.{ℕ, zero, suc, _+_, _<_, _≤_, _^_, min}
+use Prim.Native.Nat.{ℕ, zero, suc, _<_, _≤_, _^_, min}
 use native.Mathlib.Nat.{lt-irrefl, le-step, lt-suc-self, not-suc-le-zero, suc-inj, le-refl, lt-trans, min-le-left, min-le-right, le-trans}
 use native.Mathlib.Omega.{arith}
 use lib.Dec.{eqb, ltb}
 use lib.Count.{ones}
 use lib.Arith.{lt-of-le-ne}
 use lib.ListN.{length, getD}
-use Rattle.sets.specs.Truth.{_and_, _or_, if_then_else_, any, none}
+use Rattle.sets.specs.Truth.{_and_, any, none}
 use Rattle.sets.specs.Sets.{has, _∖_, single}
-use Rattle.sets.proofs.Truth.{by-test, So-not, and-iff, or-iff, eqb-iff, ltb-iff, any-iff, any-of, any-is, none-of, none-is, find, either, equal-or, below-suc, if-true, if-false}
+use Rattle.sets.proofs.Truth.{by-test, So-not, and-iff, or-iff, eqb-iff, ltb-iff, any-of, any-is, none-of, none-is, either, equal-or, below-suc, if-true, if-false}
 use Rattle.sets.proofs.Items.{has-zero, item-below, item-of}
 use Rattle.sets.proofs.Order.{∖-iff, ∖-lt, single-iff}
-use Rattle.sets.proofs.Counts.{ones-without, ones-none, ones-zero, ones-some}
+use Rattle.sets.proofs.Counts.{ones-without, ones-zero, ones-some}
 use Rattle.model.specs.Machine.{least, before, first, foremost}
 
 -- ---- the least of several numbers

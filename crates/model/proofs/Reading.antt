@@ -1,16 +1,14 @@
 -- Each definition of the building and of coverage, as the statement that it computes.
 -- Assumes nothing.
-use mathlib.Core.Path.{_≡_, refl, sym, _∙_, ap}
-use mathlib.Core.Bool.{Bool, true, false, So}
-use mathlib.Core.Logic.{_↔_, _≢_, _⊎_, ⊎-elim}
+use mathlib.Core.Path.{_≡_, refl, sym}
+use mathlib.Core.Bool.{Bool, So}
+use mathlib.Core.Logic.{_↔_, _≢_}
 use Prim.Native.Nat.{ℕ, _<_, _^_}
-use native.Mathlib.Omega.{arith}
-use lib.ListN.{length, getD}
-use Rattle.sets.specs.Truth.{_and_, _implies_, any, all, none}
-use Rattle.sets.specs.Sets.{has, _∖_, single, subset, properSubset, collect}
-use Rattle.sets.proofs.Truth.{and-iff, implies-iff, any-iff, all-iff, none-iff, none-of, none-is}
-use Rattle.sets.proofs.Items.{item-below}
-use Rattle.sets.proofs.Order.{collect-iff, collect-lt, single-iff, ∖-iff, proper-subset, subset-trans}
+use lib.ListN.{getD}
+use Rattle.sets.specs.Truth.{_and_, _implies_, all, none}
+use Rattle.sets.specs.Sets.{has, _∖_, single, subset, properSubset}
+use Rattle.sets.proofs.Truth.{and-iff, implies-iff, any-iff, all-iff, none-of, none-is}
+use Rattle.sets.proofs.Order.{collect-iff, single-iff, ∖-iff}
 use Rattle.model.specs.Hierarchy.{Roles, candidateCount, permissionSet, authorisedUsers, senior, immediatelySenior, immediateJuniors, directPermissions, directMembers}
 use Rattle.model.specs.Coverage.{grant, covers, covered, allCovered, spared, strikable, strikables}
 

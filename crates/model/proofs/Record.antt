@@ -2,9 +2,9 @@
 -- paper says.
 -- Assumes nothing.
 use mathlib.Core.Path.{_≡_, refl, sym, _∙_, ap, ap₂, fun-ext}
-use mathlib.Core.Bool.{Bool, true, false, So}
-use mathlib.Core.Logic.{_↔_, _≢_, _⊎_, ⊎-elim}
-use mathlib.Core.List.{List, [], _∷_}
+use mathlib.Core.Bool.{So}
+use mathlib.Core.Logic.{_↔_}
+use mathlib.Core.List.{List}
 use Prim.Native.Nat.{ℕ, zero, suc, _+_, _-_, _*_, _/_, _%_, _^_, _<_, _≤_}
 use native.Mathlib.Nat.{lt-of-lt-of-le}
 use native.Mathlib.Omega.{arith}
@@ -20,13 +20,13 @@ use Rattle.sets.proofs.Items.{digit, has-above}
 use Rattle.sets.proofs.Order.{collect-lt}
 use Rattle.sets.proofs.Words.{word-lt}
 use Rattle.sets.proofs.Truth.{So-not, and-iff, eqb-iff, ltb-iff, leb-iff, all-iff, if-true, if-false, either}
-use Rattle.model.specs.Lists.{tabulate, setAt, rowsAt}
-use Rattle.model.specs.Hierarchy.{Roles, Rows, candidateCount, immediatelySenior, permissionSet, immediateJuniors, directPermissions, directMembers, building}
+use Rattle.model.specs.Lists.{setAt, rowsAt}
+use Rattle.model.specs.Hierarchy.{Roles, candidateCount, immediatelySenior, permissionSet, immediateJuniors, directPermissions, directMembers, building}
 use Rattle.model.specs.Coverage.{allCovered}
 use Rattle.model.specs.State.{State, rolesOf, withinLimits, rowsWithin}
 use Rattle.model.specs.Record.{recordLength, crewStart, setsStart, permissionsStart, membersStart, juniorsStart, headerWord, regionWord, wordAt, built, stateOf, rowsOf, stateSound, sound}
 use Rattle.model.proofs.Building.{absent-juniors, absent-permissions, absent-members}
-use Rattle.model.proofs.Lists.{length-tabulate, getD-tabulate, tabulate-is, setAt-words, setAt-same, length-rowsAt, getD-rowsAt}
+use Rattle.model.proofs.Lists.{length-tabulate, getD-tabulate, tabulate-is, setAt-words, length-rowsAt, getD-rowsAt}
 
 -- ---- the regions
 

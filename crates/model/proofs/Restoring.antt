@@ -4,7 +4,6 @@ use mathlib.Core.Path.{_≡_, refl, sym, _∙_, ap, subst}
 use mathlib.Core.Bool.{false, So}
 use mathlib.Core.Logic.{_≢_, _⊎_, ⊎-elim}
 use Prim.Native.Nat.{ℕ, _+_, _<_}
-use native.Mathlib.Nat.{lt-irrefl}
 use native.Mathlib.Omega.{arith}
 use lib.Count.{ones}
 use Rattle.sets.specs.Sets.{has, _∩_, _∪_, _∖_, single}
@@ -14,16 +13,13 @@ use Rattle.sets.proofs.Order.{∪-iff, ∖-iff, single-iff}
 use Rattle.sets.proofs.Counts.{ones-∖, ones-with}
 use Rattle.model.specs.Hierarchy.{Roles, candidateCount, permissionSet, authorisedUsers, senior, immediatelySenior, immediateJuniors, directPermissions, directMembers}
 use Rattle.model.proofs.Reading.{Ordered, immediate-iff, junior-iff, permission-iff, member-iff}
-use Rattle.model.proofs.Building.{stands-below, senior-lower, senior-stands}
+use Rattle.model.proofs.Building.{stands-below, senior-differs}
 use Rattle.model.proofs.Changes.{stands-other, senior-other, immediate-stays, immediate-new}
 
 -- S is the standing set with k
 module _ (ρ : Roles) (S : ℕ) (o : Ordered ρ S) (k : ℕ) (here : So (has S k)) where
   below : k < candidateCount ρ
   below = stands-below ρ S o k here
-
-  above-other : (i j : ℕ) → So (senior ρ S i j) → i ≢ j
-  above-other i j s e = lt-irrefl j (subst (λ (x : ℕ). j < x) e (senior-lower ρ S o i j s))
 
   -- an immediate senior's links to the juniors of k go, and one to k comes
   module _ (i : ℕ) (h : So (immediatelySenior ρ S i k)) where
@@ -42,7 +38,7 @@ module _ (ρ : Roles) (S : ℕ) (o : Ordered ρ S) (k : ℕ) (here : So (has S k
         (λ d.
         _⊎_.inl
         (∖-iff old own j .1 (
-          junior-iff ρ (S ∖ single k) i j .1 (a .0, immediate-stays ρ S o k i j (above-other i k s) d (a .1)),
+          junior-iff ρ (S ∖ single k) i j .1 (a .0, immediate-stays ρ S o k i j (senior-differs ρ S o i k s) d (a .1)),
           λ x.
               let b = junior-iff ρ S k j .0 x in
               immediate-iff ρ S i j .0 (a .1) .1 k below s (immediate-iff ρ S k j .0 (b .1) .0),
@@ -75,7 +71,7 @@ module _ (ρ : Roles) (S : ℕ) (o : Ordered ρ S) (k : ℕ) (here : So (has S k
     pub permissions-restored : directPermissions ρ S i ≡ directPermissions ρ (S ∖ single k) i ∖ permissionSet ρ k
     permissions-restored =
         let old = directPermissions ρ (S ∖ single k) i in
-        let d = above-other i k s in
+        let d = senior-differs ρ S o i k s in
         same-set (directPermissions ρ S i) (old ∖ permissionSet ρ k)
         (λ p t.
         let a = permission-iff ρ S i p .0 t in
@@ -104,7 +100,7 @@ module _ (ρ : Roles) (S : ℕ) (o : Ordered ρ S) (k : ℕ) (here : So (has S k
     pub members-restored : directMembers ρ S j ≡ directMembers ρ (S ∖ single k) j ∖ authorisedUsers ρ k
     members-restored =
         let old = directMembers ρ (S ∖ single k) j in
-        let d : j ≢ k = λ e. above-other k j s (sym e) in
+        let d : j ≢ k = λ e. senior-differs ρ S o k j s (sym e) in
         same-set (directMembers ρ S j) (old ∖ authorisedUsers ρ k)
         (λ u t.
         let a = member-iff ρ S j u .0 t in

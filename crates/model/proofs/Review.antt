@@ -1,10 +1,10 @@
 -- Review: it is a list of accepted restorations, what holds when it ends, and that it ends by itself.
 -- Assumes nothing.
-use mathlib.Core.Path.{_≡_, refl, sym, _∙_, ap}
-use mathlib.Core.Bool.{Bool, true, false, So}
-use mathlib.Core.Logic.{_↔_, _≢_, _⊎_, ⊎-elim}
+use mathlib.Core.Path.{_≡_, refl, sym, _∙_}
+use mathlib.Core.Bool.{false, So}
+use mathlib.Core.Logic.{_≢_, _⊎_}
 use Prim.Native.Nat.{ℕ, zero, suc, _+_, _*_, _<_, _≤_, _^_}
-use native.Mathlib.Nat.{le-refl, le-trans, le-step, lt-suc-self, not-suc-le-zero, zero-add, zero-mul, suc-mul, add-comm}
+use native.Mathlib.Nat.{le-refl, le-trans, not-suc-le-zero, zero-add, suc-mul}
 use native.Mathlib.Omega.{arith}
 use lib.Dec.{eqb, ltb}
 use lib.Count.{ones, ones-le}

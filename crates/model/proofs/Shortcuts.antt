@@ -1,21 +1,19 @@
 -- The facts that fast code rests on.
 -- Assumes nothing.
-use mathlib.Core.Path.{_≡_, refl, sym, _∙_, ap}
-use mathlib.Core.Bool.{Bool, true, false, So}
+use mathlib.Core.Path.{_≡_, refl, sym}
+use mathlib.Core.Bool.{Bool, So}
 use mathlib.Core.Logic.{_↔_, _≢_, _⊎_, ⊎-elim}
 use Prim.Native.Nat.{ℕ, zero, suc, _+_, _<_, _≤_, _^_}
-use native.Mathlib.Nat.{lt-irrefl, lt-trans, le-refl}
+use native.Mathlib.Nat.{lt-irrefl}
 use native.Mathlib.Omega.{arith}
-use lib.Dec.{eqb}
-use lib.ListN.{length, getD}
-use Rattle.sets.specs.Truth.{_and_, _or_, none}
-use Rattle.sets.specs.Sets.{has, _∩_, _∪_, _∖_, single, subset, properSubset, collect}
-use Rattle.sets.proofs.Truth.{by-test, So-not, same-test, and-iff, or-iff, eqb-iff, none-of, none-is, find, equal-or}
+use lib.ListN.{getD}
+use Rattle.sets.specs.Truth.{_and_, none}
+use Rattle.sets.specs.Sets.{has, _∩_, _∪_, _∖_, single, subset, properSubset}
+use Rattle.sets.proofs.Truth.{by-test, So-not, and-iff, none-of, none-is, find, equal-or}
 use Rattle.sets.proofs.Items.{same-set, has-zero, empty-of, item-below}
-use Rattle.sets.proofs.Order.{collect-iff, collect-same, ∩-iff, ∪-iff, ∖-iff, single-iff, subset-iff, subset-refl, subset-trans, proper-iff, proper-subset, proper-trans, proper-irrefl}
-use Rattle.model.specs.Candidates.{candidates, Listed}
+use Rattle.sets.proofs.Order.{collect-iff, ∩-iff, ∪-iff, ∖-iff, single-iff, subset-iff, subset-refl, subset-trans, proper-iff, proper-subset, proper-trans}
 use Rattle.model.specs.Hierarchy.{Roles, candidateCount, permissionSet, authorisedUsers, senior, immediatelySenior, immediateJuniors, directPermissions, directMembers}
-use Rattle.model.specs.Coverage.{covers, covered}
+use Rattle.model.specs.Coverage.{covered}
 use Rattle.model.specs.Indexes.{lower, maximal, rolesOfUser, rolesOfPermission}
 use Rattle.model.proofs.Reading.{Ordered, user-iff, covers-iff, covered-iff, senior-iff, immediate-iff, junior-iff, permission-iff, member-iff}
 use Rattle.model.proofs.Building.{stands-below, senior-trans, senior-lower, senior-stands, senior-permission, senior-user, topmost}

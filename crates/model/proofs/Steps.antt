@@ -1,15 +1,15 @@
 -- The machine's steps: every state that it reaches keeps the limits and covers each grant; an elimination is a list of accepted strikes, and
 -- a review a list of accepted restorations, with the same states.
 -- Assumes nothing.
-use mathlib.Core.Path.{_≡_, refl, sym, _∙_, ap, ap₂}
+use mathlib.Core.Path.{_≡_, refl, sym, _∙_, ap}
 use mathlib.Core.Bool.{Bool, true, false, So}
-use mathlib.Core.Logic.{_↔_, _≢_, _⊎_, ⊎-elim}
+use mathlib.Core.Logic.{_≢_}
 use mathlib.Core.List.{List, [], _∷_, _++_, map}
 use Prim.Native.Nat.{ℕ, zero, suc, _+_, _<_, _≤_, _^_}
 use native.Mathlib.Omega.{arith}
 use lib.Dec.{eqb, ltb}
 use lib.ListN.{length, getD, length-append}
-use Rattle.sets.specs.Truth.{_and_, isnt, if_then_else_}
+use Rattle.sets.specs.Truth.{isnt, if_then_else_}
 use Rattle.sets.specs.Sets.{has, _∪_, _∖_, single, collect}
 use Rattle.sets.proofs.Truth.{by-test, So-not, not-So, isnt-iff, eqb-iff, ltb-iff, if-true, if-false}
 use Rattle.sets.proofs.Items.{has-zero}
@@ -17,9 +17,9 @@ use Rattle.sets.proofs.Order.{subset-refl, ∖-lt, ∪-lt, single-lt, collect-l
 use Rattle.model.specs.Candidates.{candidates}
 use Rattle.model.specs.Hierarchy.{Roles, candidateCount, permissionSet}
 use Rattle.model.specs.Coverage.{grant, allCovered, strikable}
-use Rattle.model.specs.Quality.{Weights, weightsAllowed}
+use Rattle.model.specs.Quality.{Weights}
 use Rattle.model.specs.State.{State, rolesOf, standingNow, fresh}
-use Rattle.model.specs.Machine.{Call, Tolerance, Run, Answer, Outcome, answer, toleranceAllowed, refusal, accepted, step, stateAfter, answersTo, eliminated, reviewed}
+use Rattle.model.specs.Machine.{Call, Tolerance, Outcome, answer, refusal, accepted, step, stateAfter, eliminated, reviewed}
 use Rattle.model.specs.Machine.Call.{strike, restore, eliminate, review}
 use Rattle.model.proofs.Candidates.{proper-lower, row-candidate}
 use Rattle.model.proofs.Reading.{Ordered, user-iff, covers-iff, covered-iff, allCovered-iff, strikable-stands}
@@ -208,10 +208,10 @@ pub record Made (st : State) (n : ℕ) (make : ℕ → Call) (end : State) : Typ
   pub all-accepted : AllAccepted st (map make roles)
   pub state-then : stateAfter st (map make roles) ≡ end
 
-after-append : (st : State) (calls : List Call) (call : Call) → stateAfter st (calls ++ (call ∷ [])) ≡ step (stateAfter st calls) call .state
+pub state-append : (st : State) (calls : List Call) (call : Call) → stateAfter st (calls ++ (call ∷ [])) ≡ step (stateAfter st calls) call .state
 unfolding stateAfter
-after-append st [] call = refl
-after-append st (first ∷ calls) call = after-append (step st first .state) calls call
+state-append st [] call = refl
+state-append st (first ∷ calls) call = state-append (step st first .state) calls call
 
 accepted-append : (st : State) (calls : List Call) (call : Call) → AllAccepted st calls → refusal (stateAfter st calls) call ≡ 0
     → AllAccepted st (calls ++ (call ∷ []))
@@ -234,7 +234,7 @@ made-more st n k make mid end m e s =
       roles = m .roles ++ (k ∷ []);
       many = length-append (m .roles) (k ∷ []) ∙ (let x = m .many in let y : length (m .roles) + 1 ≡ suc n = omega arith in y);
       all-accepted = rw (map-append make (m .roles) k) (accepted-append st (map make (m .roles)) (make k) (m .all-accepted) (rw (m .state-then) e));
-      state-then = rw (map-append make (m .roles) k) (after-append st (map make (m .roles)) (make k) ∙ ap (λ (x : State). step x (make k) .state) (m .state-then) ∙ s);
+      state-then = rw (map-append make (m .roles) k) (state-append st (map make (m .roles)) (make k) ∙ ap (λ (x : State). step x (make k) .state) (m .state-then) ∙ s);
     }
 
 pub strikes-made : (st : State) (n S : ℕ) → Strikes (rolesOf st) (st .standing) n S → Made st n strike (standingNow st S)

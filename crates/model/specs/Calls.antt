@@ -1,6 +1,5 @@
 -- What each outside call answers, and what it leaves in the lent record. A refusal gives its number and zeros, and alters nothing.
 -- Assumes nothing.
-use mathlib.Core.Bool.{Bool}
 use mathlib.Core.List.{List}
 use Prim.Native.Nat.{ℕ, _*_}
 use lib.Dec.{eqb, leb, ltb}
@@ -11,7 +10,7 @@ use Rattle.model.specs.Candidates.{candidates}
 use Rattle.model.specs.Hierarchy.{candidateCount}
 use Rattle.model.specs.Chains.{may}
 use Rattle.model.specs.Quality.{Weights, weightsAllowed, counted, weigh}
-use Rattle.model.specs.State.{State, rolesOf, fresh, withinLimits, rowsWithin}
+use Rattle.model.specs.State.{rolesOf, fresh, withinLimits, rowsWithin}
 use Rattle.model.specs.Record.{recordLength, built, stateOf, rowsOf, sound}
 use Rattle.model.specs.Machine.{Call, Answer, answer, step}
 

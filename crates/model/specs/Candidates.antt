@@ -1,7 +1,7 @@
 -- Mining: "Candidates are all nonempty intersections of one or more persons' crew rows, each distinct set once, numbered by growing value."
 -- Assumes nothing.
 use mathlib.Core.Path.{_≡_}
-use mathlib.Core.Bool.{Bool, true, false, So}
+use mathlib.Core.Bool.{So}
 use mathlib.Core.Logic.{_↔_, _≢_}
 use mathlib.Core.List.{List, [], _∷_}
 use Prim.Native.Nat.{ℕ, zero, suc, _^_, _<_}

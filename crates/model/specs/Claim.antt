@@ -1,19 +1,19 @@
 -- Condition 3: what holds of a record after every list of calls, one named clause for each part of it.
 -- Assumes nothing.
 use mathlib.Core.Path.{_≡_}
-use mathlib.Core.Bool.{Bool, So}
+use mathlib.Core.Bool.{So}
 use mathlib.Core.Logic.{_↔_}
 use mathlib.Core.List.{List, [], _∷_, _++_}
 use Prim.Native.Nat.{ℕ, _<_}
 use lib.ListN.{getD}
 use Rattle.sets.specs.Sets.{has}
 use Rattle.model.specs.Chains.{link, Chain, other, Authorised}
-use Rattle.model.specs.State.{State, rolesOf}
+use Rattle.model.specs.State.{rolesOf}
 use Rattle.model.specs.Record.{built, stateOf, rowsOf}
 use Rattle.model.specs.Altered.{Altered}
-use Rattle.model.specs.Machine.{Call, Answer, step, stateAfter, answersTo}
+use Rattle.model.specs.Machine.{Call, Answer, stateAfter, answersTo}
 use Rattle.model.specs.Machine.Call.{strike, restore}
-use Rattle.model.specs.Calls.{Edited, edit}
+use Rattle.model.specs.Calls.{edit}
 
 -- each call of a list is lent the record as the one before left it: the record after the list, and the answers
 unfoldable pub wordsAfter : List ℕ → List Call → List ℕ

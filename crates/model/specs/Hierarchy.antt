@@ -1,6 +1,6 @@
 -- The building of a standing set R: A(k), senior, immediately senior, direct permissions, direct members.
 -- Assumes nothing.
-use mathlib.Core.Bool.{Bool, true, false}
+use mathlib.Core.Bool.{Bool}
 use mathlib.Core.List.{List}
 use Prim.Native.Nat.{ℕ}
 use lib.ListN.{length, getD}

@@ -1,6 +1,5 @@
 -- Sets of roles that the code computes once and asks often.
 -- Assumes nothing.
-use mathlib.Core.Bool.{Bool}
 use Prim.Native.Nat.{ℕ}
 use Rattle.sets.specs.Truth.{_and_, none}
 use Rattle.sets.specs.Sets.{has, properSubset, collect}

@@ -2,7 +2,7 @@
 -- Assumes nothing.
 use mathlib.Core.Bool.{Bool}
 use mathlib.Core.List.{List, [], _∷_}
-use Prim.Native.Nat.{ℕ, zero, suc, _+_, _*_, min}
+use Prim.Native.Nat.{ℕ, zero, suc, _*_, min}
 use lib.Dec.{eqb, leb, ltb}
 use lib.Count.{ones}
 use Rattle.sets.specs.Truth.{_and_, _or_, isnt, if_then_else_, any, none}

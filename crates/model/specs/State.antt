@@ -8,7 +8,7 @@ use lib.ListN.{length, getD}
 use Rattle.sets.specs.Truth.{_and_, all}
 use Rattle.sets.specs.Sets.{collect}
 use Rattle.model.specs.Candidates.{candidates}
-use Rattle.model.specs.Hierarchy.{Roles, candidateCount}
+use Rattle.model.specs.Hierarchy.{Roles}
 
 pub record State : Type 0 where
   -- n, m, and the crew row of each person

@@ -25,8 +25,10 @@ use Rattle.model.specs.Machine.{least, coverers, redundancy}
 use Rattle.model.proofs.Reading.{covers-iff}
 use Rattle.model.proofs.Shortcuts.{rolesOfUser-iff, rolesOfPermission-iff}
 use Rattle.model.proofs.PassOrder.{least-≤, least-≤-start, least-is}
-use Rattle.tables.specs.Stores.{putAt, wordsOf}
-use Rattle.tables.proofs.Stores.{length-putAt, stored-back, stored-before, stored-after}
+use Rattle.lists.specs.Stores.{putAt}
+use Rattle.tables.specs.Stores.{wordsOf}
+use Rattle.lists.proofs.Stores.{length-putAt}
+use Rattle.tables.proofs.Stores.{stored-back, stored-before, stored-after}
 use Rattle.building.specs.Tables.{Zeros}
 use Rattle.building.proofs.Sources.{setAt-zero}
 use Rattle.ordering.specs.Ranking.{LeastTo, Nested, Ranked, Keyed, downFrom, upFrom}

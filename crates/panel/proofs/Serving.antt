@@ -1,10 +1,10 @@
 -- A list of calls, served one by one; and condition 3 of what that leaves.
 -- Assumes nothing.
-use mathlib.Core.Path.{_≡_, refl, sym, _∙_, ap, ap₂, subst}
+use mathlib.Core.Path.{_≡_, refl, sym, _∙_, ap, subst}
 use mathlib.Core.Bool.{Bool, true, false, So}
 use mathlib.Core.Logic.{_↔_, _≢_}
 use mathlib.Core.List.{List, [], _∷_, _++_}
-use Prim.Native.Nat.{ℕ, zero, suc, _+_, _-_, _*_, _/_, _≤_, _<_}
+use Prim.Native.Nat.{ℕ, suc, _+_, _-_, _*_, _/_, _≤_, _<_}
 use native.Mathlib.Omega.{arith}
 use lib.Dec.{eqb, leb, ltb}
 use lib.ListN.{length, getD, set, take, length-set}
@@ -14,10 +14,9 @@ use Rattle.sets.specs.Sets.{has}
 use Rattle.sets.proofs.Truth.{by-test, So-not, not-So, and-iff, isnt-iff, all-iff, eqb-iff, leb-iff, ltb-iff, all-more, if-true, if-false, if-cases}
 use Rattle.model.specs.Lists.{rowsAt}
 use Rattle.model.specs.Candidates.{candidates}
-use Rattle.model.specs.Hierarchy.{candidateCount}
 use Rattle.model.specs.Chains.{link, Chain, other, Authorised}
 use Rattle.model.specs.State.{State, rolesOf, fresh, withinLimits, rowsWithin}
-use Rattle.model.specs.Record.{recordLength, built, stateOf, rowsOf, sound}
+use Rattle.model.specs.Record.{recordLength, built, stateOf, rowsOf}
 use Rattle.model.specs.Altered.{Altered}
 use Rattle.model.specs.Machine.{Call, Answer, answer, step, stateAfter, answersTo}
 use Rattle.model.specs.Machine.Call.{strike, restore, eliminate, review}
@@ -26,12 +25,11 @@ use Rattle.model.specs.Calls.{Edited, edit, mine, miningRefusal}
 use Rattle.model.specs.Claim.{wordsAfter, answersGiven, Kept}
 use Rattle.model.proofs.Lists.{length-rowsAt}
 use Rattle.model.proofs.Record.{state-back, withinLimits-iff, rowsWithin-iff}
-use Rattle.model.proofs.Steps.{Fit, fresh-fit, step-code}
+use Rattle.model.proofs.Steps.{Fit, fresh-fit}
 use Rattle.model.proofs.Claim.{fit-sound, claim, after-sound, after-state, edit-given}
 use Rattle.reading.specs.Reading.{weightsOf}
-use Rattle.tables.specs.Stores.{putAt}
+use Rattle.lists.specs.Stores.{putAt}
 use Rattle.panel.specs.declared.list.Outcome.{Outcome}
-use Rattle.panel.specs.declared.list.Served.{Served}
 use Rattle.panel.specs.declared.list.Served.the-variants.{Unreadable, Refused, Mined}
 use Rattle.call_mine.specs.declared.MineAnswer.{MineAnswer}
 use Rattle.call_strike.specs.declared.StrikeAnswer.{StrikeAnswer}

@@ -18,7 +18,7 @@ use Rattle.model.specs.Hierarchy.{Rows, candidateCount, building}
 use Rattle.model.specs.Chains.{link, reached, directRoles, rolesReached, may, Authorised}
 use Rattle.model.specs.Quality.{counted, counts}
 use Rattle.model.specs.State.{rolesOf}
-use Rattle.model.specs.Record.{stateOf, rowsOf, sound}
+use Rattle.model.specs.Record.{stateOf, rowsOf, sound, juniorsStart, membersStart, permissionsStart}
 use Rattle.model.proofs.Record.{read-count, rows-back, sound-built}
 use Rattle.model.proofs.Building.{building-below, link-senior, senior-lower}
 use Rattle.model.proofs.Chains.{RowsBelow, may-iff, reached-lt}
@@ -77,9 +77,9 @@ module _ (ws : List ℕ) (h : So (sound ws)) where
 
   -- the code's own steps: the direct roles of u, what these reach, and whether one of that has p
   pub may-found : (u p direct found : ℕ) (r : Bool)
-      → direct ≡ collect (getD ws 2 0) (λ k. has (setAt 2 (take 256 (drop 1544 ws)) (2 * k)) u)
-      → ((b : Rows) (c : ℕ) → c ≤ 128 → Holds 2 c (b .juniors) (take 256 (drop 1800 ws)) → Downward c b → direct < 2 ^ c → found ≡ reached (link b) c direct)
-      → r ≡ any 128 (λ j. has found j and has (setAt 4 (take 512 (drop 1032 ws)) (4 * j)) p)
+      → direct ≡ collect (getD ws 2 0) (λ k. has (setAt 2 (take 256 (drop membersStart ws)) (2 * k)) u)
+      → ((b : Rows) (c : ℕ) → c ≤ 128 → Holds 2 c (b .juniors) (take 256 (drop juniorsStart ws)) → Downward c b → direct < 2 ^ c → found ≡ reached (link b) c direct)
+      → r ≡ any 128 (λ j. has found j and has (setAt 4 (take 512 (drop permissionsStart ws)) (4 * j)) p)
       → r ≡ may (candidateCount (rolesOf (stateOf ws))) (rowsOf ws) u p
   unfolding may rolesReached directRoles
   may-found u p direct found r ed ef er =
@@ -89,22 +89,22 @@ module _ (ws : List ℕ) (h : So (sound ws)) where
       let down = sound-downward in
       let own : direct ≡ directRoles c b u =
       ed
-      ∙ collect-same c (λ k. has (setAt 2 (take 256 (drop 1544 ws)) (2 * k)) u) (λ k. has (b .members k) u)
-      (λ k l. ap (λ (x : ℕ). has x u) (setAt-part 2 1544 256 ws (2 * k) (omega arith) ∙ sym (row-members ws k l))) in
+      ∙ collect-same c (λ k. has (setAt 2 (take 256 (drop membersStart ws)) (2 * k)) u) (λ k. has (b .members k) u)
+      (λ k l. ap (λ (x : ℕ). has x u) (setAt-part 2 membersStart 256 ws (2 * k) (omega arith) ∙ sym (row-members ws k l))) in
       let small : direct < 2 ^ c = rw own (collect-lt c (λ k. has (b .members k) u)) in
       let to : found ≡ reached (link b) c direct =
-      ef b c few (λ k l. setAt-part 2 1800 256 ws (2 * k) (omega arith) ∙ sym (row-juniors ws k l)) down small in
+      ef b c few (λ k l. setAt-part 2 juniorsStart 256 ws (2 * k) (omega arith) ∙ sym (row-juniors ws k l)) down small in
       let all : found ≡ rolesReached c b u = to ∙ ap (reached (link b) c) own in
-      let f : ℕ → Bool = λ j. has found j and has (setAt 4 (take 512 (drop 1032 ws)) (4 * j)) p in
+      let f : ℕ → Bool = λ j. has found j and has (setAt 4 (take 512 (drop permissionsStart ws)) (4 * j)) p in
       let g : ℕ → Bool = λ j. has (rolesReached c b u) j and has (b .permissions j) p in
       let same : (j : ℕ) → j < c → f j ≡ g j =
       λ j l.
-      ap₂ (λ (x y : ℕ). has x j and has y p) all (setAt-part 4 1032 512 ws (4 * j) (omega arith) ∙ sym (row-permissions ws j l)) in
+      ap₂ (λ (x y : ℕ). has x j and has y p) all (setAt-part 4 permissionsStart 512 ws (4 * j) (omega arith) ∙ sym (row-permissions ws j l)) in
       let inside : RowsBelow c b = rw sound-count sound-below in
       let below : (j : ℕ) → So (f j) → j < c =
       λ j x.
       item-below c (reached (link b) c direct) j (reached-lt c b inside direct small)
-      (rw to at (and-iff (has found j) (has (setAt 4 (take 512 (drop 1032 ws)) (4 * j)) p) .0 x .0)) in
+      (rw to at (and-iff (has found j) (has (setAt 4 (take 512 (drop permissionsStart ws)) (4 * j)) p) .0 x .0)) in
       rw (sym sound-count)
       (er
       ∙ same-test (any 128 f) (any c f) (λ x. let w = any-is 128 f x in any-of c f (w .0) (below (w .0) (w .2)) (w .2))

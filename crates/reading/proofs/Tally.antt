@@ -12,7 +12,7 @@ use Rattle.sets.proofs.Truth.{either, total-same}
 use Rattle.sets.proofs.Counts.{total-suc, total-zero}
 use Rattle.model.specs.Lists.{setAt}
 use Rattle.model.specs.Quality as model
-use Rattle.model.specs.Record.{rowsOf}
+use Rattle.model.specs.Record.{rowsOf, juniorsStart, membersStart, permissionsStart}
 use Rattle.reading.specs.Reading.{countsOf}
 use Rattle.reading.proofs.Parts.{setAt-part, row-juniors, row-permissions, row-members}
 
@@ -67,14 +67,14 @@ row-total w at n c ws f room h =
     ap ones (setAt-part w at n ws (w * k) (omega arith) ∙ sym (h k l)))
 
 pub counts-found : (ws : List ℕ) (a b d e : ℕ) → getD ws 2 0 ≤ 128 → a ≡ ones (setAt 2 ws 4)
-    → b ≡ total (getD ws 2 0) (λ k. ones (setAt 2 (take 256 (drop 1544 ws)) (2 * k)))
-    → d ≡ total (getD ws 2 0) (λ k. ones (setAt 4 (take 512 (drop 1032 ws)) (4 * k)))
-    → e ≡ total (getD ws 2 0) (λ k. ones (setAt 2 (take 256 (drop 1800 ws)) (2 * k)))
+    → b ≡ total (getD ws 2 0) (λ k. ones (setAt 2 (take 256 (drop membersStart ws)) (2 * k)))
+    → d ≡ total (getD ws 2 0) (λ k. ones (setAt 4 (take 512 (drop permissionsStart ws)) (4 * k)))
+    → e ≡ total (getD ws 2 0) (λ k. ones (setAt 2 (take 256 (drop juniorsStart ws)) (2 * k)))
     → countsOf (record { roles = a; members = b; permissions = d; links = e }) ≡ model.counted (getD ws 2 0) (rowsOf ws) (setAt 2 ws 4)
 unfolding countsOf model.counted
 counts-found ws a b d e few ea eb ed ee =
     let c = getD ws 2 0 in
-    let members = eb ∙ row-total 2 1544 256 c ws (rowsOf ws .members) (omega arith) (row-members ws) in
-    let permissions = ed ∙ row-total 4 1032 512 c ws (rowsOf ws .permissions) (omega arith) (row-permissions ws) in
-    let links = ee ∙ row-total 2 1800 256 c ws (rowsOf ws .juniors) (omega arith) (row-juniors ws) in
+    let members = eb ∙ row-total 2 membersStart 256 c ws (rowsOf ws .members) (omega arith) (row-members ws) in
+    let permissions = ed ∙ row-total 4 permissionsStart 512 c ws (rowsOf ws .permissions) (omega arith) (row-permissions ws) in
+    let links = ee ∙ row-total 2 juniorsStart 256 c ws (rowsOf ws .juniors) (omega arith) (row-juniors ws) in
     λ i. record { roles = ea i; members = members i; permissions = permissions i; links = links i }

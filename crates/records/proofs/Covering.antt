@@ -1,19 +1,18 @@
 -- Coverage, user by user, and the rows' limit.
 -- Assumes nothing.
 use mathlib.Core.Path.{_≡_, refl, sym, _∙_, ap, ap₂, subst}
-use mathlib.Core.Bool.{Bool, true, false, So}
-use mathlib.Core.Logic.{_↔_, _≢_, _⊎_, ⊎-elim}
+use mathlib.Core.Bool.{Bool, So}
+use mathlib.Core.Logic.{_↔_, _⊎_, ⊎-elim}
 use mathlib.Core.List.{List}
 use Prim.Native.Nat.{ℕ, _+_, _*_, _^_, _≤_, _<_}
 use native.Mathlib.Nat.{lt-of-lt-of-le}
 use native.Mathlib.Omega.{arith}
 use lib.Dec.{eqb, ltb}
-use lib.ListN.{length, getD}
+use lib.ListN.{getD}
 use Rattle.sets.specs.Truth.{_and_, _implies_, all}
 use Rattle.sets.specs.Sets.{has, _∩_, subset, collect}
-use Rattle.sets.proofs.Truth.{same-test, So-not, all-same, and-iff, implies-iff, all-iff, eqb-iff, ltb-iff, find, either}
+use Rattle.sets.proofs.Truth.{same-test, So-not, all-same, and-iff, implies-iff, all-iff, eqb-iff, ltb-iff, find, not-So}
 use Rattle.sets.proofs.Items.{has-zero, item-below, empty-of, below-of-items}
-use Rattle.sets.proofs.Truth.{not-So}
 use Rattle.sets.proofs.Order.{∩-iff, ∩-lt, subset-iff, collect-iff}
 use Rattle.model.specs.Lists.{setAt, rowsAt}
 use Rattle.model.specs.Hierarchy.{candidateCount, permissionSet}
@@ -26,7 +25,7 @@ use Rattle.model.proofs.Shortcuts.{maximal-iff, rolesOfUser-iff, maximal-above}
 use Rattle.hierarchy.specs.Tables.{lessAll}
 use Rattle.hierarchy.proofs.Sieving.{lessAll-iff}
 use Rattle.building.specs.Tables.{Source, Indexed}
-use Rattle.building.proofs.Sources.{numbered, narrow, source-set, source-count}
+use Rattle.building.proofs.Sources.{numbered, source-set, source-count}
 use Rattle.records.specs.Records.{userRoles, userCovered}
 
 -- ---- rows

@@ -1,19 +1,18 @@
 -- A record judged part by part.
 -- Assumes nothing.
-use mathlib.Core.Path.{_≡_, refl, sym, _∙_, ap, ap₂, subst}
+use mathlib.Core.Path.{_≡_, refl, sym, _∙_, ap}
 use mathlib.Core.Bool.{Bool, true, false, So, not}
-use mathlib.Core.Logic.{_↔_, _≢_}
 use mathlib.Core.List.{List}
-use Prim.Native.Nat.{ℕ, zero, suc, _+_, _-_, _*_, _^_, _≤_, _<_}
+use Prim.Native.Nat.{ℕ, _+_, _-_, _*_, _^_, _≤_, _<_}
 use native.Mathlib.Omega.{arith}
-use lib.Dec.{eqb, leb, ltb}
+use lib.Dec.{eqb, ltb}
 use borrow.Author.Tests.{not-true, not-false}
-use lib.ListN.{length, getD, take, drop, replicate, length-replicate, getD-replicate, length-take, length-drop, List·getD-eq-default}
+use lib.ListN.{length, getD, take, drop, replicate, length-replicate, getD-replicate, length-drop, List·getD-eq-default}
 use lib.Seq.{getD-take, getD-drop, length-take-le}
 use Rattle.sets.specs.Truth.{_and_, all}
 use Rattle.sets.specs.Sets.{has, subset, collect}
 use Rattle.sets.specs.Words.{word}
-use Rattle.sets.proofs.Truth.{by-test, same-test, So-not, not-So, and-iff, eqb-iff, leb-iff, ltb-iff, all-iff, all-same, either}
+use Rattle.sets.proofs.Truth.{same-test, So-not, not-So, and-iff, eqb-iff, ltb-iff, either}
 use Rattle.sets.proofs.Order.{subset-iff, collect-iff}
 use Rattle.sets.proofs.Items.{same-set, item-below, below-of-items}
 use Rattle.sets.proofs.Words.{word-zero}
@@ -21,15 +20,15 @@ use Rattle.model.specs.Lists.{setAt, rowsAt}
 use Rattle.model.specs.Candidates.{candidates}
 use Rattle.model.specs.Hierarchy.{candidateCount, permissionSet}
 use Rattle.model.specs.Coverage.{allCovered}
-use Rattle.model.specs.Record.{recordLength, crewStart, wordAt, built, stateOf, stateSound, sound}
+use Rattle.model.specs.Record.{recordLength, wordAt, stateOf, stateSound, sound}
 use Rattle.model.specs.State.{State, rolesOf, fresh, withinLimits, rowsWithin}
 use Rattle.model.proofs.Lists.{length-rowsAt, getD-rowsAt}
-use Rattle.model.proofs.Record.{Limits, withinLimits-iff, rowsWithin-iff, stateSound-iff, sound-iff, built-length, built-word}
-use Rattle.tables.specs.Stores.{putAt}
+use Rattle.model.proofs.Record.{Limits, withinLimits-iff, rowsWithin-iff, stateSound-iff, sound-iff}
+use Rattle.lists.specs.Stores.{putAt}
 use Rattle.tables.specs.Tables.{Holds}
-use Rattle.tables.proofs.Stores.{putAt-in, putAt-above}
+use Rattle.lists.proofs.Stores.{putAt-in, putAt-above}
 use Rattle.mining.specs.Mining.{Written}
-use Rattle.building.specs.Tables.{Source, Zeros}
+use Rattle.building.specs.Tables.{Zeros}
 use Rattle.building.proofs.Sources.{source-count, source-set}
 use Rattle.records.specs.Records.{Padded, Tabled}
 use Rattle.records.proofs.Writing.{word-of}
@@ -75,16 +74,6 @@ padded-state st rec crew table at n c t h =
       crew-words = λ u j lu lj. h u j lu lj ∙ ap (λ (l : List ℕ). word (getD l u 0) j) (sym (t .source .rows));
       set-words = t .set-words;
     }
-
--- ---- the words
-
-pub same-as-built : (st : State) (rec fresh : List ℕ) (t : Bool) → fresh ≡ built st
-    → t ≡ all (length fresh) (λ i. eqb (getD rec (0 + i) 0) (getD fresh i 0)) → t ≡ all recordLength (λ i. eqb (getD rec i 0) (wordAt st i))
-same-as-built st rec fresh t e h =
-    h ∙ ap (λ (l : List ℕ). all (length l) (λ i. eqb (getD rec (0 + i) 0) (getD l i 0))) e
-    ∙ rw (built-length st)
-    (all-same recordLength (λ i. eqb (getD rec (0 + i) 0) (getD (built st) i 0)) (λ i. eqb (getD rec i 0) (wordAt st i))
-    (λ i l. let z : 0 + i ≡ i = omega arith in ap₂ (λ (x y : ℕ). eqb (getD rec x 0) y) z (built-word st i l)))
 
 -- ---- what two tests in a row tell
 

@@ -1,3 +1,4 @@
 pub mod Covering
 pub mod Writing
+pub mod Comparing
 pub mod Judging

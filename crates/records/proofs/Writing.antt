@@ -2,22 +2,21 @@
 -- Assumes nothing.
 use mathlib.Core.Path.{_≡_, refl, sym, _∙_, ap}
 use mathlib.Core.List.{List, [], _∷_}
-use Prim.Native.Nat.{ℕ, zero, suc, _+_, _*_, _^_, _≤_, _<_}
-use native.Mathlib.Nat.{add-comm}
+use Prim.Native.Nat.{ℕ, _+_, _*_, _^_, _≤_, _<_}
 use native.Mathlib.Omega.{arith}
 use lib.ListN.{length, getD, set, List·getD-eq-default}
-use Rattle.sets.specs.Words.{value, word}
+use Rattle.sets.specs.Words.{word}
 use Rattle.sets.proofs.Truth.{either}
 use Rattle.sets.proofs.Words.{word-value}
 use Rattle.model.specs.Lists.{elems, setAt}
-use Rattle.model.specs.Hierarchy.{candidateCount, permissionSet, directPermissions, directMembers, immediateJuniors}
+use Rattle.model.specs.Hierarchy.{candidateCount, directPermissions, directMembers, immediateJuniors}
 use Rattle.model.specs.Record.{recordLength, crewStart, setsStart, permissionsStart, membersStart, juniorsStart, headerWord, wordAt, built}
 use Rattle.model.specs.State.{State, rolesOf}
 use Rattle.model.proofs.Lists.{length-elems, getD-elems, tabulate-is}
 use Rattle.model.proofs.Record.{by-region, word-head, word-crew, word-set, word-permissions, word-members, word-juniors}
-use Rattle.tables.specs.Stores.{putAt}
+use Rattle.lists.specs.Stores.{putAt}
 use Rattle.tables.specs.Tables.{Holds}
-use Rattle.tables.proofs.Stores.{length-putAt, putAt-below, putAt-above, putAt-in}
+use Rattle.lists.proofs.Stores.{length-putAt, putAt-below, putAt-in}
 use Rattle.building.specs.Tables.{Built}
 use Rattle.records.specs.Records.{Padded}
 

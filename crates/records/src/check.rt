@@ -9,23 +9,24 @@ ghost use Rattle.sets.specs.Held.{set128};
 ghost use Rattle.sets.specs.Truth.{_and_, all};
 ghost use Rattle.sets.specs.Words.{word};
 ghost use Rattle.model.specs.Lists.{rowsAt};
-ghost use Rattle.model.specs.Hierarchy.{candidateCount};
 ghost use Rattle.model.specs.Coverage.{allCovered};
 ghost use Rattle.model.specs.Record.{recordLength, wordAt, stateOf, sound};
 ghost use Rattle.model.specs.State.{State, rolesOf, withinLimits, rowsWithin};
 ghost use Rattle.model.proofs.Growing.{Growing};
-ghost use Rattle.building.specs.Tables.{Source, Indexed, Built, Zeros};
+ghost use Rattle.building.specs.Tables.{Indexed, Built, Zeros};
 ghost use Rattle.records.specs.Records.{Tabled};
 use crate::cover::all_covered;
 use crate::cover::rows_within;
-use crate::write::write_record;
 use building::fill_indexes;
 use building::fill_rows;
 use mining::Mined;
 use mining::mine;
 use sets::Set128;
 use tables::CREW;
-use tables::LENGTH;
+use tables::JUNIORS;
+use tables::MEMBERS;
+use tables::PERMISSIONS;
+use tables::SETS;
 use tables::STANDING;
 use tables::copy;
 use tables::holds;
@@ -53,7 +54,7 @@ fn within(rec: &[u64]) -> bool
     rows_within(rec, CREW, n as usize, m as usize)
 }
 
-// Whether each word is what building afresh gives.
+// Whether each word is what building afresh gives, region by region.
 fn same_words(
     rec: &[u64],
     n: usize,
@@ -70,20 +71,24 @@ fn same_words(
 {
     let mut crew = [0u64; 512];
     pad(rec, CREW, n, &mut crew);
-    let mut fresh = [0u64; LENGTH];
-    write_record(
-        &mut fresh,
-        n as u64,
-        m,
-        c as u64,
-        standing,
-        &crew,
-        table,
-        permissions,
-        members,
-        juniors,
-    );
-    holds(rec, 0, &fresh)
+    let low = standing.word(0);
+    let high = standing.word(1);
+    if !holds(rec, 0, &[n as u64, m, c as u64, 0, low, high, 0, 0]) {
+        return false;
+    }
+    if !holds(rec, CREW, &crew) {
+        return false;
+    }
+    if !holds(rec, SETS, table) {
+        return false;
+    }
+    if !holds(rec, PERMISSIONS, permissions) {
+        return false;
+    }
+    if !holds(rec, MEMBERS, members) {
+        return false;
+    }
+    holds(rec, JUNIORS, juniors)
 }
 
 // Whether the rows, and with them all words, are what building afresh gives.

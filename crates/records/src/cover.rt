@@ -1,11 +1,9 @@
 ghost use mathlib.Core.Path.{_≡_};
 ghost use mathlib.Core.List.{List};
-ghost use Prim.Native.Nat.{ℕ, _+_, _*_, _^_, _≤_, _<_};
-ghost use lib.Dec.{ltb};
+ghost use Prim.Native.Nat.{ℕ, _+_, _*_, _≤_, _<_};
 ghost use lib.ListN.{length, getD};
 ghost use Rattle.sets.specs.Held.{set128, set256};
-ghost use Rattle.sets.specs.Truth.{all};
-ghost use Rattle.model.specs.Lists.{setAt, rowsAt};
+ghost use Rattle.model.specs.Lists.{rowsAt};
 ghost use Rattle.model.specs.Coverage.{allCovered};
 ghost use Rattle.model.specs.State.{State, rolesOf, rowsWithin};
 ghost use Rattle.building.specs.Tables.{Source, Indexed};

@@ -1,7 +1,7 @@
 // A freshly mined record.
 ghost use mathlib.Core.Path.{_≡_};
 ghost use mathlib.Core.List.{List};
-ghost use Prim.Native.Nat.{ℕ, _+_, _*_, _≤_};
+ghost use Prim.Native.Nat.{ℕ, _*_, _≤_};
 ghost use lib.ListN.{length};
 ghost use Rattle.sets.specs.Held.{set128};
 ghost use Rattle.model.specs.Lists.{rowsAt};

@@ -1,14 +1,12 @@
 ghost use mathlib.Core.Path.{_≡_};
 ghost use mathlib.Core.List.{[], _∷_};
-ghost use Prim.Native.Nat.{ℕ, _+_, _*_, _≤_};
-ghost use lib.ListN.{length, take, drop};
+ghost use lib.ListN.{length};
 ghost use Rattle.sets.specs.Held.{set128};
 ghost use Rattle.sets.specs.Words.{word};
-ghost use Rattle.model.specs.Lists.{rowsAt};
 ghost use Rattle.model.specs.Record.{recordLength, built};
 ghost use Rattle.model.specs.State.{State};
-ghost use Rattle.tables.specs.Stores.{putAt};
-ghost use Rattle.building.specs.Tables.{Source, Built};
+ghost use Rattle.lists.specs.Stores.{putAt};
+ghost use Rattle.building.specs.Tables.{Built};
 ghost use Rattle.records.specs.Records.{Padded};
 use sets::Set128;
 use tables::CREW;

@@ -1,7 +1,7 @@
 -- A turn of the review, and its passes, as the machine takes them.
 -- Assumes nothing.
-use mathlib.Core.Path.{_≡_, refl, sym, _∙_, ap, ap₂, subst}
-use mathlib.Core.Bool.{Bool, true, false, So}
+use mathlib.Core.Path.{_≡_, refl, sym, _∙_, ap}
+use mathlib.Core.Bool.{false, So}
 use mathlib.Core.List.{List}
 use Prim.Native.Nat.{ℕ, zero, suc, _+_, _-_, _*_, _≤_, _<_}
 use native.Mathlib.Numerals.{add-one}
@@ -10,7 +10,7 @@ use lib.Dec.{eqb, ltb}
 use lib.ListN.{getD}
 use Rattle.sets.specs.Truth.{if_then_else_}
 use Rattle.sets.specs.Sets.{has, _∪_, single}
-use Rattle.sets.proofs.Truth.{by-test, So-not, not-So, ltb-iff, eqb-iff, if-true, if-false}
+use Rattle.sets.proofs.Truth.{by-test, not-So, ltb-iff, eqb-iff, if-true, if-false}
 use Rattle.model.specs.Hierarchy.{Roles, candidateCount}
 use Rattle.model.specs.Quality.{Weights, quality}
 use Rattle.model.specs.Machine.{Run, kept, restored, tryRestore, reviewTo, reviewPasses, reviewed, begin}
@@ -18,7 +18,7 @@ use Rattle.model.specs.Record.{stateOf}
 use Rattle.model.specs.State.{State, rolesOf, standingNow}
 use Rattle.model.proofs.Steps.{standing-now}
 use Rattle.trials.specs.declared.progress.Progress.{Progress}
-use Rattle.trials.specs.Trying.{runAt, Kin, Ready, Exact, Going, weightsIn}
+use Rattle.trials.specs.Trying.{runAt, Kin, Ready, Going}
 use Rattle.trials.proofs.Moving.{roles-count, ready-few}
 use Rattle.trials.proofs.Runs.{kin-same, kin-trans, kin-roles, kin-count}
 

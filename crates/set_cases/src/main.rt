@@ -1,4 +1,6 @@
 // The set library at the borders of its words: for each width, and each i there, the sets {i} and {0, .., i} and what the library says of them.
+ghost use mathlib.Core.Path.{_≡_};
+ghost use mathlib.Core.Bool.{true};
 use libc::STDOUT_FILENO;
 use sets::Item;
 use sets::Set128;
@@ -81,6 +83,13 @@ fn case256(i: u8) {
     print(256, i, row);
 }
 
+// What is left of a set without another has nothing in common with that other: a caller knows it from the library's promises.
+fn apart(a: Set256, b: Set256) -> bool
+    ensures { λ r. ⌜ r ≡ true ⌝ }
+{
+    a.difference(b).intersection(b).is_empty()
+}
+
 fn main() {
     case128(0);
     case128(63);
@@ -94,4 +103,7 @@ fn main() {
     case256(127);
     case256(128);
     case256(255);
+    text(b"apart:");
+    flag(apart(Set256::below(200), Set256::below(100)));
+    text(b"\n");
 }

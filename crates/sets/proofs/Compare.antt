@@ -13,10 +13,10 @@ use lib.Arith.{lt-of-le-ne}
 use lib.Bits.{bitOr, bitXor, xor-self, and-le-l, and-le-r, or-add-and, xor-add-and}
 use lib.Count.{ones, ones-cat}
 use lib.ListN.{length}
-use Rattle.sets.specs.Truth.{if_then_else_}
+use Rattle.sets.specs.Truth.{if_then_else_, all}
 use Rattle.sets.specs.Sets.{_∩_, _∖_}
 use Rattle.sets.specs.Words.{value}
-use Rattle.sets.proofs.Truth.{same-test, eqb-iff, ltb-iff, equal-or, if-true, if-false}
+use Rattle.sets.proofs.Truth.{same-test, all-of, all-is, all-more, eqb-iff, ltb-iff, equal-or, if-true, if-false}
 use Rattle.sets.proofs.Words.{Words}
 
 -- ---- all words at once
@@ -65,6 +65,18 @@ xor-none a b =
 pub ∖-none : (a b : ℕ) → (a ∖ b ≡ 0) ↔ (a ∩ b ≡ a)
 unfolding _∖_
 ∖-none a b = let r = xor-none a (a ∩ b) in (λ e. sym (r .0 e), λ e. r .1 (sym e))
+
+-- words compared one after the other: d has a bit wherever two of the first i differ, and x and y are the next
+pub differ-more : (d x y i : ℕ) (f : ℕ → Bool) → eqb d 0 ≡ all i f → eqb x y ≡ f i → eqb (bitOr d (bitXor x y)) 0 ≡ all (i + 1) f
+differ-more d x y i f ed ef =
+    same-test (eqb (bitOr d (bitXor x y)) 0) (all (i + 1) f)
+    (λ h.
+    let k = or-none d (bitXor x y) .0 (eqb-iff (bitOr d (bitXor x y)) 0 .0 h) in
+    all-more i f (sym ed ∙ eqb-iff d 0 .1 (k .0)) (sym ef ∙ eqb-iff x y .1 (xor-none x y .0 (k .1))))
+    (λ h.
+    let z : d ≡ 0 = eqb-iff d 0 .0 (ed ∙ all-of i f (λ k l. all-is (i + 1) f h k (omega arith))) in
+    let e : x ≡ y = eqb-iff x y .0 (ef ∙ all-is (i + 1) f h i (omega arith)) in
+    eqb-iff (bitOr d (bitXor x y)) 0 .1 (or-none d (bitXor x y) .1 (z, xor-none x y .1 e)))
 
 -- ---- comparison, from the highest word down
 

@@ -279,6 +279,10 @@ collect-more n s f e =
     old : (i : ℕ) → So (has (collect n f) i) → So (has (collect (n + 1) f) i)
     old i x = let a = collect-iff n f i .0 x in collect-iff (n + 1) f i .1 (omega (arith, a .0), a .1)
 
+-- the same gathered in one word
+pub collect-bit : (n s : ℕ) (f : ℕ → Bool) → n < 64 → s ≡ collect n f → (if f n then s ∪ single (n % 64) else s) ≡ collect (n + 1) f
+collect-bit n s f l e = let d : n % 64 ≡ n = omega arith in rw d (collect-more n s f e)
+
 -- the first k, and the rest from k on
 pub collect-parts : (k n : ℕ) (f : ℕ → Bool) → collect (n - k) (λ i. f (k + i)) * 2 ^ k + collect (min n k) f ≡ collect n f
 unfolding collect

@@ -191,6 +191,10 @@ total-same (suc n) f g h = rw (h n (lt-suc-self n), total-same n f g (λ i l. h 
 
 -- ---- a loop over the indices: it goes on, fails at one, or is through
 
+pub all-none : (f : ℕ → Bool) → So (all 0 f)
+unfolding all
+all-none f = refl
+
 pub all-more : (i : ℕ) (f : ℕ → Bool) → So (all i f) → So (f i) → So (all (i + 1) f)
 all-more i f h t = all-of (i + 1) f (λ k l. below-suc k i (rw (add-one i) at l) (λ (e : k ≡ i). rw e t) (λ b. all-is i f h k b))
 

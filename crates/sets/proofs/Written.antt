@@ -137,9 +137,6 @@ has-or a b i = has-∪ a b i
 pub has-masked : (a b i : ℕ) → a < 2 ^ 64 → b < 2 ^ 64 → has (masked a b) i ≡ (has a i and isnt (has b i))
 has-masked a b i ha hb = ap (λ (x : ℕ). has x i) (and-turned 64 a b ha hb) ∙ has-∖ a b i
 
-pub has-down : (a s i : ℕ) → has (a / 2 ^ s) i ≡ has a (s + i)
-has-down a s i = has-shift a s i
-
 pub has-up : (a s i : ℕ) → i < 64 → s ≤ i → has (a * 2 ^ s % 2 ^ 64) i ≡ has a (i - s)
 has-up a s i h l =
     let e : s + (i - s) ≡ i = omega arith in

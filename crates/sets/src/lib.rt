@@ -7,4 +7,6 @@ mod word;
 pub use item::Item;
 pub use set128::Set128;
 pub use set256::Set256;
+pub use word::Place;
+pub use word::place_of;
 pub use word::with_bit;

@@ -33,12 +33,11 @@ pub fn bit_at(i: usize, j: usize) -> u64
     if p.word == j { 1 << p.bit } else { 0 }
 }
 
-// The word with item i where `held` says so, without a branch.
+// A word with the bit of item i put in where `held` says so, without a branch.
 pub fn with_bit(w: u64, i: usize, held: bool) -> u64
-    requires { ⌜ i < 64 ⌝ }
-    ensures { λ r. ⌜ r ≡ (if held then w ∪ single i else w) ⌝ }
+    ensures { λ r. ⌜ r ≡ (if held then w ∪ single (i % 64) else w) ⌝ }
 {
-    w | ((held as u64) << i)
+    w | ((held as u64) << place_of(i).bit)
 }
 
 pub fn count_of(w: u64) -> usize

@@ -1,63 +1,17 @@
--- What stands in a list after words were stored into it.
+-- A set stored into a list of words, and read from it.
 -- Assumes nothing.
-use mathlib.Core.Path.{_≡_, refl, sym, _∙_, ap}
-use mathlib.Core.Bool.{Bool, true, false, So}
-use mathlib.Core.Logic.{_≢_}
-use mathlib.Core.List.{List, [], _∷_, _++_}
-use Prim.Native.Nat.{ℕ, zero, suc, _+_, _*_, _^_, _≤_, _<_}
-use native.Mathlib.Nat.{not-suc-le-zero, add-zero, add-suc, suc-add}
+use mathlib.Core.Path.{_≡_, _∙_}
+use mathlib.Core.List.{List, [], _∷_}
+use Prim.Native.Nat.{ℕ, _+_, _*_, _^_, _≤_, _<_}
 use native.Mathlib.Numerals.{add-one, add-two, add-three}
 use native.Mathlib.Omega.{arith}
-use lib.ListN.{length, getD, set, take, length-set}
-use lib.Seq.{getD-set-same, getD-set-other, take-suc, take-all, length-take-le}
+use lib.ListN.{length, getD, set}
 use Rattle.sets.specs.Words.{value, word}
-use Rattle.sets.proofs.Truth.{either}
 use Rattle.model.specs.Lists.{tabulate, elems, setAt}
 use Rattle.model.proofs.Lists.{length-tabulate, getD-tabulate, setAt-words, setAt-same}
-use Rattle.tables.specs.Stores.{putAt, wordsOf}
-
-pub length-putAt : (l : List ℕ) (at : ℕ) (vs : List ℕ) → length (putAt l at vs) ≡ length l
-unfolding putAt
-length-putAt l at [] = refl
-length-putAt l at (v ∷ vs) = length-putAt (set l at v) (suc at) vs ∙ length-set l at v
-
-pub putAt-below : (l : List ℕ) (at : ℕ) (vs : List ℕ) (i : ℕ) → i < at → getD (putAt l at vs) i 0 ≡ getD l i 0
-unfolding putAt
-putAt-below l at [] i h = refl
-putAt-below l at (v ∷ vs) i h =
-    putAt-below (set l at v) (suc at) vs i (omega arith) ∙ getD-set-other l at i v 0 (λ (e : i ≡ at). let z : ⊥ = omega arith in z)
-
-pub putAt-above : (l : List ℕ) (at : ℕ) (vs : List ℕ) (i : ℕ) → at + length vs ≤ i → getD (putAt l at vs) i 0 ≡ getD l i 0
-unfolding putAt
-putAt-above l at [] i h = refl
-putAt-above l at (v ∷ vs) i h =
-    let h' : at + suc (length vs) ≤ i = h in
-    putAt-above (set l at v) (suc at) vs i (omega arith) ∙ getD-set-other l at i v 0 (λ (e : i ≡ at). let z : ⊥ = omega arith in z)
-
-pub putAt-in : (l : List ℕ) (at : ℕ) (vs : List ℕ) (j : ℕ) → at + length vs ≤ length l → j < length vs → getD (putAt l at vs) (at + j) 0 ≡ getD vs j 0
-unfolding putAt
-putAt-in l at [] j h b = absurd (not-suc-le-zero b)
-putAt-in l at (v ∷ vs) zero h b =
-    let h' : at + suc (length vs) ≤ length l = h in
-    rw (add-zero at) (putAt-below (set l at v) (suc at) vs at (omega arith) ∙ getD-set-same l at v 0 (omega arith))
-putAt-in l at (v ∷ vs) (suc j) h b =
-    let h' : at + suc (length vs) ≤ length l = h in
-    let b' : suc j < suc (length vs) = b in
-    rw (add-suc at j ∙ sym (suc-add at j)) (putAt-in (set l at v) (suc at) vs j (rw (length-set l at v) (omega arith)) (omega arith))
-
--- one word more
-pub putAt-more : (l : List ℕ) (at : ℕ) (vs : List ℕ) (v : ℕ) → putAt l at (vs ++ (v ∷ [])) ≡ set (putAt l at vs) (at + length vs) v
-unfolding putAt
-putAt-more l at [] v = rw (add-zero at) refl
-putAt-more l at (w ∷ vs) v = putAt-more (set l at w) (suc at) vs v ∙ ap (λ (x : ℕ). set (putAt (set l at w) (suc at) vs) x v) (suc-add at (length vs) ∙ sym (add-suc at (length vs)))
-
-pub putAt-take : (l : List ℕ) (at : ℕ) (src : List ℕ) (i : ℕ) → i < length src
-    → putAt l at (take (suc i) src) ≡ set (putAt l at (take i src)) (at + i) (getD src i 0)
-putAt-take l at src i h =
-    ap (putAt l at) (take-suc src i 0 h) ∙ putAt-more l at (take i src) (getD src i 0)
-    ∙ ap (λ (x : ℕ). set (putAt l at (take i src)) (at + x) (getD src i 0)) (length-take-le i src (omega arith))
-
--- ---- sets
+use Rattle.lists.specs.Stores.{putAt}
+use Rattle.lists.proofs.Stores.{putAt-below, putAt-above, putAt-in}
+use Rattle.tables.specs.Stores.{wordsOf}
 
 pub length-wordsOf : (w s : ℕ) → length (wordsOf w s) ≡ w
 unfolding wordsOf
@@ -100,11 +54,3 @@ stored4 ws at s a b c d ea eb ec ed = rw (ea, eb, ec, ed) (simp (add-one, add-tw
 pub stored2 : (ws : List ℕ) (at s a b : ℕ) → a ≡ word s 0 → b ≡ word s 1 → set (set ws at a) (at + 1) b ≡ putAt ws at (wordsOf 2 s)
 unfolding putAt wordsOf tabulate
 stored2 ws at s a b ea eb = rw (ea, eb) (simp add-one)
-
--- a copy, word by word
-pub copied-more : (ws₀ ws src : List ℕ) (at i : ℕ) → i < length src → ws ≡ putAt ws₀ at (take i src)
-    → set ws (at + i) (getD src i 0) ≡ putAt ws₀ at (take (i + 1) src)
-copied-more ws₀ ws src at i h e = ap (λ (l : List ℕ). set l (at + i) (getD src i 0)) e ∙ sym (putAt-take ws₀ at src i h) ∙ ap (λ (n : ℕ). putAt ws₀ at (take n src)) (sym (add-one i))
-
-pub copied-all : (ws₀ ws src : List ℕ) (at i : ℕ) → length src ≤ i → ws ≡ putAt ws₀ at (take i src) → ws ≡ putAt ws₀ at src
-copied-all ws₀ ws src at i h e = e ∙ ap (putAt ws₀ at) (take-all i src h)

@@ -9,7 +9,8 @@ ghost use lib.ListN.{length, getD};
 ghost use Rattle.sets.specs.Held.{set128, set256};
 ghost use Rattle.sets.specs.Truth.{all};
 ghost use Rattle.model.specs.Lists.{setAt};
-ghost use Rattle.tables.specs.Stores.{putAt, wordsOf};
+ghost use Rattle.lists.specs.Stores.{putAt};
+ghost use Rattle.tables.specs.Stores.{wordsOf};
 pub use layout::CREW;
 pub use layout::JUNIORS;
 pub use layout::LENGTH;
@@ -65,17 +66,16 @@ pub fn copy(ws: &mut [u64], at: usize, src: &[u64])
     }
 }
 
-// Whether ws holds all of src, from place `at` on.
+// Whether ws holds all of src, from place `at` on. All words are compared, without a branch for each.
 pub fn holds(ws: &[u64], at: usize, src: &[u64]) -> bool
     requires { ⌜ at + length (now src) ≤ length (now ws) ⌝ }
     ensures { λ r. ⌜ r ≡ all (length (now (src .entry))) (λ i. eqb (getD (now (ws .entry)) (at + i) 0) (getD (now (src .entry)) i 0)) ⌝ }
 {
+    let mut differing = 0;
     let mut i = 0;
     while i < src.len() {
-        if ws[at + i] != src[i] {
-            return false;
-        }
+        differing |= ws[at + i] ^ src[i];
         i += 1;
     }
-    true
+    differing == 0
 }

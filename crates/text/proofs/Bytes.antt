@@ -1,32 +1,20 @@
 -- Fixed bytes in a text.
 -- Assumes nothing.
 use mathlib.Core.Path.{_≡_, sym, _∙_, ap}
-use mathlib.Core.Bool.{Bool, false, So}
+use mathlib.Core.Bool.{Bool, true, false, So}
 use mathlib.Core.List.{List, [], _∷_, _++_}
 use mathlib.Core.Logic.{_↔_}
 use Prim.Native.Nat.{ℕ, _+_, _-_, _≤_, _<_}
-use native.Mathlib.Nat.{not-suc-le-zero, add-assoc, add-zero}
+use native.Mathlib.Nat.{add-assoc, add-zero}
 use native.Mathlib.Omega.{arith}
 use lib.Dec.{eqb, leb}
 use lib.ListN.{length, getD, length-append, List·getD-append}
 use lib.Seq.{ext-getD, getD-append-add}
-use Rattle.sets.specs.Truth.{_and_, all}
-use Rattle.sets.proofs.Truth.{not-So, and-iff, all-of, all-is, eqb-iff, leb-iff, below-suc, either}
-use Rattle.text.specs.Fixed.{holds}
-
--- ---- every index below n, one more at a time
-
-pub all-none : (f : ℕ → Bool) → So (all 0 f)
-all-none f = all-of 0 f (λ i h. absurd (not-suc-le-zero h))
-
-pub all-more : (i : ℕ) (f : ℕ → Bool) → So (all i f) → So (f i) → So (all (i + 1) f)
-all-more i f h k = all-of (i + 1) f (λ j l. below-suc j i (omega arith) (λ (e : j ≡ i). rw e k) (λ b. all-is i f h j b))
-
-pub all-fails : (n : ℕ) (f : ℕ → Bool) (i : ℕ) → i < n → (So (f i) → ⊥) → all n f ≡ false
-all-fails n f i h k = not-So (all n f) (λ s. k (all-is n f s i h))
-
-pub all-through : (n : ℕ) (f : ℕ → Bool) (i : ℕ) → n ≤ i → So (all i f) → So (all n f)
-all-through n f i h s = all-of n f (λ j l. all-is i f s j (omega arith))
+use Rattle.sets.specs.Truth.{if_then_else_, all}
+use Rattle.sets.proofs.Truth.{by-test, if-true, if-false, not-So, and-iff, all-of, all-is, all-through, eqb-iff, leb-iff, either}
+use Rattle.text.specs.declared.field.Field.{Field}
+use Rattle.text.specs.declared.field.Field.the-variants.{Ends, Missing}
+use Rattle.text.specs.Fixed.{holds, fixedAt, lineEnd, lineEndAt}
 
 -- ---- what holding says
 
@@ -110,4 +98,41 @@ module _ (text : List ℕ) (at : ℕ) (bytes : List ℕ) (i : ℕ) where
   unfolding holds
   holds-through b h s =
       and-iff (leb (at + length bytes) (length text)) (all (length bytes) (λ k. eqb (getD text (at + k) 0) (getD bytes k 0))) .1
-      (leb-iff (at + length bytes) (length text) .1 b, all-through (length bytes) (λ k. eqb (getD text (at + k) 0) (getD bytes k 0)) i h s)
+      (leb-iff (at + length bytes) (length text) .1 b, sym (all-through (length bytes) i (λ k. eqb (getD text (at + k) 0) (getD bytes k 0)) h s))
+
+-- ---- a field, by the test t that tells whether it is there; it would end at e
+
+pub field-of : (t b : Bool) (e : ℕ) → b ≡ t → b ≡ true → Ends e ≡ (if t then Ends e else Missing)
+field-of t b e h s = sym (if-true t (Ends e) Missing (sym h ∙ s))
+
+pub no-field-of : (t b : Bool) (e : ℕ) → b ≡ t → b ≡ false → Missing ≡ (if t then Ends e else Missing)
+no-field-of t b e h s = sym (if-false t (Ends e) Missing (sym h ∙ s))
+
+module _ {t : Bool} (e : ℕ) {r : Field} (h : r ≡ (if t then Ends e else Missing)) where
+  pub field-there : {k : ℕ} → r ≡ Ends k → (t ≡ true) × (k ≡ e)
+  field-there {k} a =
+      by-test t (λ s. (s, let q : Ends k ≡ Ends e = sym a ∙ h ∙ if-true t (Ends e) Missing s in cc))
+      (λ s. let q : Ends k ≡ Missing = sym a ∙ h ∙ if-false t (Ends e) Missing s in let z : _≡_ {A = ℕ} 0 1 = cc in absurd (omega arith))
+
+  pub field-missing : r ≡ Missing → t ≡ false
+  field-missing a =
+      by-test t (λ s. let q : Missing ≡ Ends e = sym a ∙ h ∙ if-true t (Ends e) Missing s in let z : _≡_ {A = ℕ} 0 1 = cc in absurd (omega arith))
+      (λ s. s)
+
+module _ (text : List ℕ) (at : ℕ) (bytes : List ℕ) {r : Field} (h : r ≡ fixedAt text at bytes) where
+  pub fixed-there : {k : ℕ} → r ≡ Ends k → (holds text at bytes ≡ true) × (k ≡ at + length bytes)
+  unfolding fixedAt
+  fixed-there = field-there (at + length bytes) h
+
+  pub fixed-missing : r ≡ Missing → holds text at bytes ≡ false
+  unfolding fixedAt
+  fixed-missing = field-missing (at + length bytes) h
+
+module _ (text : List ℕ) (at : ℕ) {r : Field} (h : r ≡ lineEndAt text at) where
+  pub line-end-there : {k : ℕ} → r ≡ Ends k → (holds text at lineEnd ≡ true) × (k ≡ at + 1)
+  unfolding lineEndAt
+  line-end-there = fixed-there text at lineEnd h
+
+  pub line-end-missing : r ≡ Missing → holds text at lineEnd ≡ false
+  unfolding lineEndAt
+  line-end-missing = fixed-missing text at lineEnd h

@@ -4,7 +4,7 @@ use mathlib.Core.Path.{_≡_, refl, sym, _∙_, ap}
 use mathlib.Core.Bool.{true, false}
 use mathlib.Core.List.{List, [], _∷_, _++_}
 use mathlib.Core.Logic.{_≢_}
-use Prim.Native.Nat.{ℕ, zero, suc, _+_, _-_, _*_, _/_, _%_, _^_, _≤_, _<_}
+use Prim.Native.Nat.{ℕ, zero, suc, _+_, _*_, _/_, _%_, _^_, _≤_, _<_}
 use native.Mathlib.Nat.{pow-suc}
 use native.Mathlib.Omega.{arith}
 use lib.Dec.{ltb}
@@ -15,9 +15,9 @@ use Rattle.sets.proofs.Truth.{if-true, if-false, if-passes, if-stops, either}
 use Rattle.text.specs.declared.decimal.Decimal.the-variants.{Number, Nothing}
 use Rattle.text.specs.Digits.{digitAt, digitByte}
 use Rattle.text.specs.Decimal.{decimalDigit, decimalAt, decimalOf, decimal}
-use Rattle.text.specs.Stores.{putAt}
+use Rattle.lists.specs.Stores.{putAt}
 use Rattle.text.proofs.Digits.{digit-inside}
-use Rattle.text.proofs.Stores.{putAt-more}
+use Rattle.lists.proofs.Stores.{putAt-more}
 
 decimal-yes : (text : List ℕ) (at : ℕ) → digitAt text at < 10 → decimalDigit text at ≡ true
 unfolding decimalDigit

@@ -1,7 +1,7 @@
 -- Sets in hexadecimal: the digits that stand there, and the value that they make.
 -- Assumes nothing.
 use mathlib.Core.Path.{_≡_, refl, sym, _∙_, ap}
-use mathlib.Core.Bool.{false, So}
+use mathlib.Core.Bool.{true, false, So}
 use mathlib.Core.List.{List, [], _∷_}
 use mathlib.Core.Logic.{_↔_}
 use Prim.Native.Nat.{ℕ, zero, suc, _+_, _-_, _*_, _/_, _%_, _^_, _≤_, _<_}
@@ -12,14 +12,16 @@ use lib.Dec.{leb, ltb}
 use lib.ListN.{length, getD, set}
 use lib.Pow.{pow-add, pow-mono, field, mod-mod-pow, shr-shr}
 use lib.Bits.{bitAnd, and-mask}
-use Rattle.sets.specs.Truth.{_and_, all}
+use Rattle.sets.specs.Truth.{all}
 use Rattle.sets.specs.Words.{value, word}
 use Rattle.sets.proofs.Words.{value-nil, value-cons, value-words, word-quotient}
-use Rattle.sets.proofs.Truth.{not-So, and-iff, all-of, all-is, ltb-iff, leb-iff, either}
+use Rattle.sets.proofs.Truth.{not-So, and-iff, all-of, all-is, all-through, ltb-iff, leb-iff, either}
 use Rattle.text.specs.Digits.{digitAt, digitByte}
-use Rattle.text.proofs.Bytes.{all-through}
-use Rattle.text.specs.Stores.{putAt}
-use Rattle.text.specs.Hexadecimal.{hexadecimalAt, hexadecimalValue, hexadecimal}
+use Rattle.text.proofs.Bytes.{field-there, field-missing}
+use Rattle.lists.specs.Stores.{putAt}
+use Rattle.text.specs.declared.field.Field.{Field}
+use Rattle.text.specs.declared.field.Field.the-variants.{Ends, Missing}
+use Rattle.text.specs.Hexadecimal.{hexadecimalAt, hexadecimalField, hexadecimalValue, hexadecimal}
 
 -- 16 to the d is 2 to the 4 d
 pub sixteen : (d : ℕ) → 16 ^ d ≡ 2 ^ (4 * d)
@@ -58,7 +60,7 @@ module _ (d : ℕ) (text : List ℕ) (at : ℕ) where
   unfolding hexadecimalAt
   hex-through i b h s =
       and-iff (leb (at + d) (length text)) (all d (λ i. ltb (digitAt text (at + i)) 16)) .1
-      (leb-iff (at + d) (length text) .1 b, all-through d (λ i. ltb (digitAt text (at + i)) 16) i h s)
+      (leb-iff (at + d) (length text) .1 b, sym (all-through d i (λ i. ltb (digitAt text (at + i)) 16) h s))
 
 -- a part of them
 pub hex-part : (d : ℕ) (text : List ℕ) (at a k : ℕ) → So (hexadecimalAt d text at) → a + k ≤ d → So (hexadecimalAt k text (at + a))
@@ -186,3 +188,14 @@ wider s h =
     there zero l = refl
     there (suc zero) l = refl
     there (suc (suc j)) l = absurd (omega arith)
+
+-- ---- the field of d digits
+
+module _ (d : ℕ) (text : List ℕ) (at : ℕ) {r : Field} (h : r ≡ hexadecimalField d text at) where
+  pub hexadecimal-there : {k : ℕ} → r ≡ Ends k → (hexadecimalAt d text at ≡ true) × (k ≡ at + d)
+  unfolding hexadecimalField
+  hexadecimal-there = field-there (at + d) h
+
+  pub hexadecimal-missing : r ≡ Missing → hexadecimalAt d text at ≡ false
+  unfolding hexadecimalField
+  hexadecimal-missing = field-missing (at + d) h

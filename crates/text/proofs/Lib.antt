@@ -1,6 +1,5 @@
 pub mod Digits
 pub mod Bytes
-pub mod Stores
 pub mod Decimals
 pub mod Hexadecimals
 pub mod Written

@@ -2,4 +2,3 @@ pub mod Digits
 pub mod Fixed
 pub mod Decimal
 pub mod Hexadecimal
-pub mod Stores

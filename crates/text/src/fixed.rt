@@ -1,12 +1,13 @@
-// Fixed bytes in a text.
+// Fixed bytes in a text, the end of a line among them.
 ghost use mathlib.Core.Path.{_≡_};
 ghost use Prim.Native.Nat.{_+_, _≤_};
 ghost use lib.ListN.{length};
-ghost use Rattle.text.specs.Fixed.{holds};
-ghost use Rattle.text.specs.Stores.{putAt};
+ghost use Rattle.text.specs.Fixed.{holds, fixedAt, lineEndAt};
+ghost use Rattle.lists.specs.Stores.{putAt};
+use crate::field::Field;
 
 // Whether the text holds these bytes from place `at` on.
-pub fn holds(text: &[u8], at: usize, bytes: &[u8]) -> bool
+fn holds(text: &[u8], at: usize, bytes: &[u8]) -> bool
     ensures { λ r. ⌜ r ≡ holds (now (text .entry)) at (now (bytes .entry)) ⌝ }
 {
     if text.len() < bytes.len() {
@@ -23,6 +24,21 @@ pub fn holds(text: &[u8], at: usize, bytes: &[u8]) -> bool
         i += 1;
     }
     true
+}
+
+pub fn read_fixed(text: &[u8], at: usize, bytes: &[u8]) -> Field
+    ensures { λ r. ⌜ r ≡ fixedAt (now (text .entry)) at (now (bytes .entry)) ⌝ }
+{
+    if holds(text, at, bytes) {
+        return Field::Ends(at + bytes.len());
+    }
+    Field::Missing
+}
+
+pub fn read_line_end(text: &[u8], at: usize) -> Field
+    ensures { λ r. ⌜ r ≡ lineEndAt (now (text .entry)) at ⌝ }
+{
+    read_fixed(text, at, b"\n")
 }
 
 // Writes the bytes from place `at` on; the place after them.

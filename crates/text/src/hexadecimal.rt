@@ -4,15 +4,16 @@ ghost use mathlib.Core.Bool.{So};
 ghost use Prim.Native.Nat.{_+_, _-_, _≤_};
 ghost use lib.ListN.{length};
 ghost use Rattle.sets.specs.Held.{set128, set256};
-ghost use Rattle.text.specs.Hexadecimal.{hexadecimal, hexadecimalAt, hexadecimalValue};
-ghost use Rattle.text.specs.Stores.{putAt};
+ghost use Rattle.text.specs.Hexadecimal.{hexadecimal, hexadecimalAt, hexadecimalField, hexadecimalValue};
+ghost use Rattle.lists.specs.Stores.{putAt};
 use crate::digit::digit_at;
 use crate::digit::digit_byte;
+use crate::field::Field;
 use sets::Set128;
 use sets::Set256;
 
 // Whether d digits stand from place `at` on.
-pub fn has_hexadecimal(text: &[u8], at: usize, d: usize) -> bool
+fn has_digits(text: &[u8], at: usize, d: usize) -> bool
     ensures { λ r. ⌜ r ≡ hexadecimalAt d (now (text .entry)) at ⌝ }
 {
     if text.len() < d {
@@ -29,6 +30,15 @@ pub fn has_hexadecimal(text: &[u8], at: usize, d: usize) -> bool
         i += 1;
     }
     true
+}
+
+pub fn read_hexadecimal(text: &[u8], at: usize, d: usize) -> Field
+    ensures { λ r. ⌜ r ≡ hexadecimalField d (now (text .entry)) at ⌝ }
+{
+    if has_digits(text, at, d) {
+        return Field::Ends(at + d);
+    }
+    Field::Missing
 }
 
 // The word that d digits make.
@@ -52,8 +62,8 @@ fn above(d: usize) -> usize
     if d < 16 { 0 } else { d - 16 }
 }
 
-// The set that d digits make, the last 16 of them the lowest word.
-pub fn read_hexadecimal(text: &[u8], at: usize, d: usize) -> Set256
+// The set that d digits make, the last 16 of them the lowest word. It stands beside `Field`, since an enum can't hold a set's words.
+pub fn hexadecimal_set(text: &[u8], at: usize, d: usize) -> Set256
     requires { ⌜ (d ≤ 64) × So (hexadecimalAt d (now text) at) ⌝ }
     ensures { λ r. ⌜ set256 r ≡ hexadecimalValue d (now (text .entry)) at ⌝ }
 {

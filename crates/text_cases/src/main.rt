@@ -7,7 +7,8 @@ use crewtext::CrewRead;
 use libc::STDIN_FILENO;
 use libc::STDOUT_FILENO;
 use sets::Set256;
-use text::has_hexadecimal;
+use text::Field;
+use text::hexadecimal_set;
 use text::put_bytes;
 use text::put_decimal;
 use text::put_hexadecimal;
@@ -46,10 +47,10 @@ fn show(r: CrewRead, h: u64) {
 }
 
 fn number_at(input: &[u8], at: usize) -> usize {
-    if !has_hexadecimal(input, at, 4) {
+    let Field::Ends(_) = read_hexadecimal(input, at, 4) else {
         return 0;
-    }
-    read_hexadecimal(input, at, 4).word(0) as usize
+    };
+    hexadecimal_set(input, at, 4).word(0) as usize
 }
 
 fn run(text: &[u8], words: &mut [u64]) {

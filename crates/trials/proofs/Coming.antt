@@ -22,6 +22,10 @@ use Rattle.reading.specs.Reading.{countsOf}
 use Rattle.trials.specs.Trying.{over, gainedBy, Within}
 use Rattle.trials.proofs.Sums.{came-losing, came-linked, over-within}
 
+-- what a count is, from what it was, what goes and what comes
+solve : (r b q a R' b' S' a' : ℕ) → r + b ≡ q + a → b ≡ b' → q ≡ S' → a ≡ a' → R' + b' ≡ S' + a' → r ≡ R'
+solve r b q a R' b' S' a' h eb eq ea m = omega arith
+
 module _ (ρ : Roles) (S : ℕ) (o : Ordered ρ S) (k : ℕ) (here : So (has S k)) where
   abbrev c : ℕ
   c = candidateCount ρ
@@ -112,9 +116,6 @@ module _ (ρ : Roles) (S k : ℕ) (q a : Counts) (eq : countsOf q ≡ model.coun
       let permissions = solve (r .permissions) (a .permissions) (q .permissions) (b .permissions) _ _ _ _ (h .2) (ap (λ (x : model.Counts). x .permissions) ea) (ap (λ (x : model.Counts). x .permissions) eq) (ap (λ (x : model.Counts). x .permissions) eb) (permissions-sum ρ S o k here) in
       let links = solve (r .links) (a .links) (q .links) (b .links) _ _ _ _ (h .3) (ap (λ (x : model.Counts). x .links) ea) (ap (λ (x : model.Counts). x .links) eq) (ap (λ (x : model.Counts). x .links) eb) (links-sum ρ S o k here) in
       λ i. record { roles = roles i; members = members i; permissions = permissions i; links = links i }
-    where
-      solve : (r b q a S' b' R' a' : ℕ) → r + b ≡ q + a → b ≡ b' → q ≡ R' → a ≡ a' → S' + b' ≡ R' + a' → r ≡ S'
-      solve r b q a S' b' R' a' h eb eq ea m = omega arith
 
   -- a row loses no more than it has
   pub came-within : Within a q
@@ -149,9 +150,6 @@ module _ (ρ : Roles) (S k : ℕ) (o : Ordered ρ S) (here : So (has S k)) (q b 
       let permissions = solve (r .permissions) (b .permissions) (q .permissions) (a .permissions) _ _ _ _ (h .2) (ap (λ (x : model.Counts). x .permissions) eb) (ap (λ (x : model.Counts). x .permissions) eq) (ap (λ (x : model.Counts). x .permissions) ea) (sym (permissions-sum ρ S o k here)) in
       let links = solve (r .links) (b .links) (q .links) (a .links) _ _ _ _ (h .3) (ap (λ (x : model.Counts). x .links) eb) (ap (λ (x : model.Counts). x .links) eq) (ap (λ (x : model.Counts). x .links) ea) (sym (links-sum ρ S o k here)) in
       λ i. record { roles = roles i; members = members i; permissions = permissions i; links = links i }
-    where
-      solve : (r b q a R' b' S' a' : ℕ) → r + b ≡ q + a → b ≡ b' → q ≡ S' → a ≡ a' → R' + b' ≡ S' + a' → r ≡ R'
-      solve r b q a R' b' S' a' h eb eq ea m = omega arith
 
   -- what k has is no more than what there is, since the rows without k lose to it no more than they have
   pub went-within : Within b q

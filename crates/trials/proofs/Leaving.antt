@@ -25,8 +25,8 @@ use Rattle.tables.specs.Tables.{Holds}
 use Rattle.hierarchy.specs.Tables.{lessAll}
 use Rattle.hierarchy.proofs.Sieving.{lessAll-iff}
 use Rattle.building.proofs.Sources.{narrow}
-use Rattle.editing.proofs.Changing.{seniors-read, juniors-read}
-use Rattle.editing.proofs.Removing.{members-read, permissions-read, sets-read}
+use Rattle.editing.proofs.Changing.{seniors-read, juniors-read, members-read}
+use Rattle.editing.proofs.Removing.{permissions-read, sets-read}
 use Rattle.reading.specs.declared.quality.Counts.{Counts}
 use Rattle.reading.specs.Reading.{countsOf, Few}
 use Rattle.trials.specs.Trying.{over, gainedBy, rowAt, otherJuniors, otherSeniors, handedAt, Ready, Exact, Within}

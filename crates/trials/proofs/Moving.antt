@@ -24,8 +24,8 @@ use Rattle.tables.specs.Tables.{Holds}
 use Rattle.hierarchy.specs.Tables.{Numbered, Narrow}
 use Rattle.building.specs.Tables.{Indexed}
 use Rattle.building.proofs.Sources.{numbered, narrow}
-use Rattle.editing.proofs.Changing.{count, few, indexed-now, juniors-read, put-standing, put-seniors, put-juniors}
-use Rattle.editing.proofs.Removing.{members-read, permissions-read, sets-read}
+use Rattle.editing.proofs.Changing.{count, few, indexed-now, juniors-read, put-standing, put-seniors, put-juniors, members-read}
+use Rattle.editing.proofs.Removing.{permissions-read, sets-read}
 use Rattle.reading.specs.declared.quality.Counts.{Counts}
 use Rattle.reading.specs.Reading.{countsOf, Few}
 use Rattle.trials.specs.Trying.{over, lostAt, gainedBy, Ready, Exact, Within}

@@ -3,8 +3,7 @@
 use mathlib.Core.Path.{_≡_, refl, sym, _∙_, subst}
 use mathlib.Core.Bool.{Bool, So}
 use mathlib.Core.Logic.{_↔_, _≢_, _⊎_, ⊎-elim}
-use Prim.Native.Nat.{ℕ, _<_}
-use native.Mathlib.Nat.{lt-irrefl}
+use Prim.Native.Nat.{ℕ}
 use Rattle.sets.specs.Sets.{has, _∩_, _∖_, single, collect}
 use Rattle.sets.proofs.Truth.{equal-or}
 use Rattle.sets.proofs.Order.{∩-iff, ∖-iff, single-iff, collect-iff}
@@ -12,7 +11,7 @@ use Rattle.model.specs.Chains.{Chain, one, more, link}
 use Rattle.model.specs.Hierarchy.{Roles, candidateCount, permissionSet, authorisedUsers, senior, immediatelySenior, immediateJuniors, directPermissions, directMembers, building}
 use Rattle.model.specs.Indexes.{lower}
 use Rattle.model.proofs.Reading.{Ordered, senior-iff, immediate-iff, junior-iff, permission-iff, member-iff}
-use Rattle.model.proofs.Building.{stands-below, senior-trans, senior-lower, senior-stands, senior-permission, senior-user, link-iff, link-senior, chain-senior, senior-chain}
+use Rattle.model.proofs.Building.{stands-below, senior-trans, senior-stands, senior-permission, senior-user, link-iff, link-senior, chain-senior, senior-chain, senior-differs}
 use Rattle.model.proofs.Changes.{stands-other, senior-other}
 use Rattle.model.proofs.Shortcuts.{lower-iff}
 
@@ -32,9 +31,6 @@ module _ (ρ : Roles) (S : ℕ) (o : Ordered ρ S) where
         r .1,
         _⊎_.inr (⊎-elim (λ (e : i ≡ r .0). subst (λ (z : ℕ). So (senior ρ S k z)) e s) (λ t. senior-trans ρ S o k i (r .0) s t) (r .2)),
       )
-
-  above-other : (i j : ℕ) → So (senior ρ S i j) → i ≢ j
-  above-other i j s e = lt-irrefl j (subst (λ (x : ℕ). j < x) e (senior-lower ρ S o i j s))
 
   module _ (k : ℕ) (here : So (has S k)) where
     -- the other immediate juniors of i, and the other immediate seniors of j
@@ -71,7 +67,7 @@ module _ (ρ : Roles) (S : ℕ) (o : Ordered ρ S) where
       s = immediate-iff ρ S i k .0 h .0
 
       d : i ≢ k
-      d = above-other i k s
+      d = senior-differs ρ S o i k s
 
       pub permission-taken : (p : ℕ)
           → So (has (directPermissions ρ (S ∖ single k) i ∩ permissionSet ρ k) p)
@@ -81,7 +77,7 @@ module _ (ρ : Roles) (S : ℕ) (o : Ordered ρ S) where
             let m = ∩-iff (directPermissions ρ (S ∖ single k) i) (permissionSet ρ k) p .0 t in
             let a = permission-iff ρ (S ∖ single k) i p .0 (m .0) in (
               permission-iff ρ S k p .1
-                  (a .0, here, m .1, λ j l y q. a .3 j l (senior-other ρ S o k i j .1 (senior-trans ρ S o i k j s y, d, λ e. above-other k j y (sym e))) q),
+                  (a .0, here, m .1, λ j l y q. a .3 j l (senior-other ρ S o k i j .1 (senior-trans ρ S o i k j s y, d, λ e. senior-differs ρ S o k j y (sym e))) q),
               λ x y q.
                   let b = junior-of i x .0 y in
                   let z = immediate-iff ρ S i x .0 (b .0) .0 in
@@ -131,7 +127,7 @@ module _ (ρ : Roles) (S : ℕ) (o : Ordered ρ S) where
               junior-iff ρ (S ∖ single k) i j .1 (
                 own .0,
                 immediate-iff ρ (S ∖ single k) i j .1 (
-                  senior-other ρ S o k i j .1 (senior-trans ρ S o i k j s (b .0), d, λ e. above-other k j (b .0) (sym e)),
+                  senior-other ρ S o k i j .1 (senior-trans ρ S o i k j s (b .0), d, λ e. senior-differs ρ S o k j (b .0) (sym e)),
                   λ m l y z.
                       let a = senior-other ρ S o k i m .0 y in
                       let q = senior-other ρ S o k m j .0 z .0 in
@@ -154,12 +150,12 @@ module _ (ρ : Roles) (S : ℕ) (o : Ordered ρ S) where
         ↔ (So (has (directMembers ρ S k) u) × ((x : ℕ) → So (has (collect (candidateCount ρ) (λ i. has (immediateJuniors ρ S i) j) ∖ single k) x) → So (has (authorisedUsers ρ x) u) → ⊥))
     member-taken j h u =
         let s = immediate-iff ρ S k j .0 h .0 in
-        let d : j ≢ k = λ e. above-other k j s (sym e) in (
+        let d : j ≢ k = λ e. senior-differs ρ S o k j s (sym e) in (
           λ t.
               let m = ∩-iff (directMembers ρ (S ∖ single k) j) (authorisedUsers ρ k) u .0 t in
               let a = member-iff ρ (S ∖ single k) j u .0 (m .0) in (
                 member-iff ρ S k u .1
-                    (a .0, here, m .1, λ i l y q. a .3 i l (senior-other ρ S o k i j .1 (senior-trans ρ S o i k j y s, above-other i k y, d)) q),
+                    (a .0, here, m .1, λ i l y q. a .3 i l (senior-other ρ S o k i j .1 (senior-trans ρ S o i k j y s, senior-differs ρ S o i k y, d)) q),
                 λ x y q.
                     let b = senior-of j x .0 y in
                     let z = immediate-iff ρ S x j .0 (b .0) .0 in

@@ -7,6 +7,8 @@ use crate::show::field;
 use crate::show::text;
 use panel::panel_may;
 use panel::panel_quality;
+use sets::Set256;
+use sets::place_of;
 
 pub fn weighed(rec: &[u64], w1: u64, w2: u64, w3: u64, w4: u64) {
     text(b"quality");
@@ -32,22 +34,31 @@ pub fn asked(rec: &[u64], u: u64, p: u64) {
     text(b"\n");
 }
 
-// What user u may of m permissions, permission p as bit p mod 64 of a number; after the last, all the numbers of refusals as one.
+// The words of a set, up to the one that item m would be in.
+fn words(s: Set256, m: usize) {
+    let last = place_of(m).word;
+    let mut j = 0;
+    while j < last {
+        field(s.word(j));
+        j += 1;
+    }
+    field(s.word(last));
+}
+
+// What user u may of m permissions, as a set; after it, all the numbers of refusals as one.
 fn rights(rec: &[u64], u: u64, m: u64) {
     let mut codes = 0u64;
-    let mut word = 0u64;
+    let mut held = Set256::empty();
     let mut p = 0u64;
     while p < m {
         let a = panel_may(rec, u, p);
         codes |= a.code;
-        word |= a.allowed << p % 64;
-        p += 1;
-        if p % 64 == 0 {
-            field(word);
-            word = 0;
+        if a.allowed == 1 {
+            held = held.insert(p as usize);
         }
+        p += 1;
     }
-    field(word);
+    words(held, m as usize);
     field(codes);
 }
 

@@ -10,6 +10,7 @@ use crate::mined::mined;
 use crate::mined::narrow;
 use crate::show::field;
 use crate::show::text;
+use tables::LENGTH;
 
 // 128 candidates: c, and the last role's set and row.
 fn last_role(rec: &mut [u64]) {
@@ -82,24 +83,24 @@ fn front(rec: &[u64], n: usize) {
 }
 
 fn mined_in_front(rec: &mut [u64]) {
-    if rec.len() < 2056 {
+    if rec.len() < LENGTH {
         return;
     }
-    narrow(38, 3, &[3u64, 6, 7], &mut rec[..2056]);
+    narrow(38, 3, &[3u64, 6, 7], &mut rec[..LENGTH]);
 }
 
 // A sound record of which too little is lent, or a word too much: 1 comes before the other refusals.
 fn lengths(rec: &mut [u64]) {
     mined_in_front(rec);
-    front(rec, 2056);
-    front(rec, 2055);
+    front(rec, LENGTH);
+    front(rec, LENGTH - 1);
     front(rec, 0);
-    front(rec, 2057);
+    front(rec, LENGTH + 1);
     weighed(rec, 1001, 0, 0, 0);
     asked(rec, 3, 3);
 }
 
 pub fn other_lengths() {
-    let mut long = [0u64; 2057];
+    let mut long = [0u64; LENGTH + 1];
     lengths(&mut long);
 }

@@ -7,6 +7,7 @@ use crate::show::field;
 use crate::show::text;
 use panel::panel_may;
 use panel::panel_quality;
+use sets::Set128;
 
 // The answers of both calls.
 pub fn both(rec: &[u64]) {
@@ -33,11 +34,11 @@ pub fn changed(rec: &mut [u64], place: usize, value: u64) {
     rec[place] = kept;
 }
 
-pub fn turned(rec: &mut [u64], place: usize, bit: u64) {
+pub fn turned(rec: &mut [u64], place: usize, bit: usize) {
     if rec.len() <= place {
         return;
     }
-    let value = rec[place] ^ 1 << bit % 64;
+    let value = rec[place] ^ Set128::only(bit).word(0);
     changed(rec, place, value);
 }
 
@@ -51,7 +52,7 @@ pub fn each_value(rec: &mut [u64], place: usize, values: &[u64]) {
 }
 
 // The same bit turned in the word at each of these places, and turned back.
-pub fn each_place(rec: &mut [u64], bit: u64, places: &[usize]) {
+pub fn each_place(rec: &mut [u64], bit: usize, places: &[usize]) {
     let mut i = 0;
     while i < places.len() {
         turned(rec, places[i], bit);

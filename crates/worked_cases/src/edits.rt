@@ -8,6 +8,7 @@ use panel::panel_eliminate;
 use panel::panel_restore;
 use panel::panel_review;
 use panel::panel_strike;
+use tables::LENGTH;
 
 fn struck(rec: &mut [u64], k: u64) {
     let a = panel_strike(rec, k);
@@ -129,12 +130,12 @@ pub fn many_roles(rec: &mut [u64]) {
 
 // A record of another length, and one that is not sound.
 pub fn unfit() {
-    let mut rec = [0u64; 2057];
+    let mut rec = [0u64; LENGTH + 1];
     struck(&mut rec, 0);
     restored(&mut rec, 0);
     eliminated(&mut rec, 1, 1, 1);
     reviewed(&mut rec, 1);
-    let mut zeros = [0u64; 2056];
+    let mut zeros = [0u64; LENGTH];
     struck(&mut zeros, 0);
     restored(&mut zeros, 0);
     eliminated(&mut zeros, 1, 1, 1);

@@ -10,6 +10,7 @@ use crate::show::end_with;
 use crate::show::field;
 use crate::show::numbered;
 use panel::panel_mine;
+use tables::LENGTH;
 
 pub fn mined(label: u64, n: u64, m: u64, crew: &[u64], rec: &mut [u64]) {
     let a = panel_mine(n, m, crew, rec);
@@ -86,9 +87,9 @@ pub fn wide_lists(rec: &mut [u64]) {
 
 // A record that is one word short, one that is a word too long, and one of no words.
 pub fn other_lengths() {
-    let mut short = [7u64; 2055];
+    let mut short = [7u64; LENGTH - 1];
     narrow(20, 1, &[1u64], &mut short);
-    let mut long = [7u64; 2057];
+    let mut long = [7u64; LENGTH + 1];
     narrow(21, 1, &[1u64], &mut long);
     let mut none = [0u64; 0];
     narrow(22, 1, &[1u64], &mut none);

@@ -1,6 +1,6 @@
 -- Each refusal by its own test; then what the links in the record give the user.
 -- Assumes nothing.
-use mathlib.Core.Path.{_≡_, refl, sym, _∙_}
+use mathlib.Core.Path.{refl, sym, _∙_}
 use borrow.Author.Tests.{not-true, not-false}
 use Rattle.reading.proofs.Sound.{sound-few}
 use Rattle.call_may.proofs.Rights.{may-told, bit-yes, bit-no, may-1, may-5, may-6-user, may-6-permission, may-given}

@@ -1,6 +1,6 @@
 -- Each refusal by its own test; then the quality of the record's rows.
 -- Assumes nothing.
-use mathlib.Core.Path.{_≡_, refl, sym, _∙_, ap}
+use mathlib.Core.Path.{refl, sym, _∙_, ap}
 use borrow.Author.Tests.{not-true, not-false}
 use Rattle.model.specs.Quality.{weigh}
 use Rattle.reading.specs.Reading.{weightsOf}

@@ -6,6 +6,7 @@ use Rattle.crewtext.specs.Reader.{given}
 use mathlib.Core.Path.{sym, _∙_}
 use borrow.Author.Needs.{needs}
 use native.Mathlib.Omega.{arith}
+use Rattle.lists.proofs.Stores.{putAt-whole}
 use Rattle.crewtext.proofs.fill.Statement.{statement}
 use Rattle.crewtext.proofs.fill.Tie as tie
 
@@ -29,7 +30,7 @@ same-length c = search needs
 
 returns : tie.Need-returns
 unfolding given
-returns c = rw (c .before .before .copy .ensures) (after-all _ _ _ _ _ _ _ (sym (c .before .before .before .before .before .before .before .end .given .1) ∙ c .before .before .before .before .before .before .before .before .before .before .read-rows .ensures .0) (c .before .before .before .before .before .before .before .before .before .before .read-rows .ensures .1) (c .before .before .before .before .before .if1 .taken))
+returns c = rw (c .before .before .copy .ensures ∙ putAt-whole _ _ (search needs)) (after-all _ _ _ _ _ _ _ (sym (c .before .before .before .before .before .before .before .end .given .1) ∙ c .before .before .before .before .before .before .before .before .before .before .read-rows .ensures .0) (c .before .before .before .before .before .before .before .before .before .before .read-rows .ensures .1) (c .before .before .before .before .before .if1 .taken))
 
 refused-requires : tie.Need-refused-requires
 refused-requires c κs = search needs

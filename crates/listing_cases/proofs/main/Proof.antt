@@ -1,35 +1,36 @@
--- The measure is the number of turns that are left.
+-- The measure is the number of files that may still come.
 -- Assumes nothing.
-use native.Mathlib.Omega.{arith}
+use borrow.Author.Needs.{needs}
+use Prim.Native.Nat.{_-_, _≤_}
 use Rattle.listing_cases.proofs.main.Statement.{statement}
 use Rattle.listing_cases.proofs.main.Tie as tie
 
 abbrev Inv-loop : tie.InvT-loop
-Inv-loop left₀ left = Unit {0}
+Inv-loop number₀ number = number ≤ 1000
 
 abbrev μ-loop : tie.MeasureT-loop
-μ-loop left₀ left = left
+μ-loop number₀ number = 1000 - number
 
 loop-holds : tie.Need-loop-holds Inv-loop μ-loop
-loop-holds c = tt
+loop-holds c = search needs
 
-run-one-requires : tie.Need-run-one-requires Inv-loop μ-loop
-run-one-requires c κs = tt
+run-requires : tie.Need-run-requires Inv-loop μ-loop
+run-requires c κs = search needs
 
 returns : tie.Need-returns Inv-loop μ-loop
-returns c = tt
+returns c = search needs
 
-sub-left : tie.Need-sub-left Inv-loop μ-loop
-sub-left c = omega arith
+add-number : tie.Need-add-number Inv-loop μ-loop
+add-number c = search needs
 
 loop-less : tie.Need-loop-less Inv-loop μ-loop
-loop-less c = omega arith
+loop-less c = search needs
 
 loop-again : tie.Need-loop-again Inv-loop μ-loop
-loop-again c = tt
+loop-again c = search needs
 
 returns-2 : tie.Need-returns-2 Inv-loop μ-loop
-returns-2 c = tt
+returns-2 c = search needs
 
 pub main-spec : {M : Type 1} → statement M
 main-spec =
@@ -38,9 +39,9 @@ main-spec =
     Inv-loop
     μ-loop
     loop-holds
-    run-one-requires
+    run-requires
     returns
-    sub-left
+    add-number
     loop-less
     loop-again
     returns-2)

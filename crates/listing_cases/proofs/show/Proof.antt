@@ -1,11 +1,23 @@
--- What is written is the part that the listing fills.
+-- The listing is the first part of the output.
 -- Assumes nothing.
 use borrow.Author.Needs.{needs}
 use mathlib.Core.Path.{sym}
-use lib.Seq.{length-take-le}
 use native.Mathlib.Omega.{arith}
+use lib.Seq.{length-take-le}
 use Rattle.listing_cases.proofs.show.Statement.{statement}
 use Rattle.listing_cases.proofs.show.Tie as tie
+
+slice-aggregate-read-full : tie.Need-slice-aggregate-read-full
+slice-aggregate-read-full c = search needs
+
+read-full-requires : tie.Need-read-full-requires
+read-full-requires c κs = search needs
+
+array-share-prefix-text : tie.Need-array-share-prefix-text
+array-share-prefix-text c = search needs
+
+slice-aggregate-list-roles : tie.Need-slice-aggregate-list-roles
+slice-aggregate-list-roles c = search needs
 
 list-roles-requires : tie.Need-list-roles-requires
 list-roles-requires c κs = search needs
@@ -26,6 +38,10 @@ pub show-spec : {M : Type 1} → statement M
 show-spec =
     tie.close
     (tie.spec
+    slice-aggregate-read-full
+    read-full-requires
+    array-share-prefix-text
+    slice-aggregate-list-roles
     list-roles-requires
     array-share-prefix-out
     slice-aggregate-write-all

@@ -1,9 +1,8 @@
 -- The digits are there.
 -- Assumes nothing.
 use borrow.Author.Needs.{needs}
-use mathlib.Core.Path.{sym, _∙_}
 use native.Mathlib.Omega.{arith}
-use borrow.Author.Tests.{not-false}
+use Rattle.text.proofs.Hexadecimals.{hexadecimal-there}
 use Rattle.replay.proofs.next_number.Statement.{statement}
 use Rattle.replay.proofs.next_number.Tie as tie
 
@@ -22,20 +21,26 @@ array-read-if2 c = search needs
 returns-2 : tie.Need-returns-2
 returns-2 c = search needs
 
-slice-aggregate-has-hexadecimal : tie.Need-slice-aggregate-has-hexadecimal
-slice-aggregate-has-hexadecimal c = search needs
-
-has-hexadecimal-requires : tie.Need-has-hexadecimal-requires
-has-hexadecimal-requires c κs = search needs
-
-returns-3 : tie.Need-returns-3
-returns-3 c = search needs
-
 slice-aggregate-read-hexadecimal : tie.Need-slice-aggregate-read-hexadecimal
 slice-aggregate-read-hexadecimal c = search needs
 
 read-hexadecimal-requires : tie.Need-read-hexadecimal-requires
-read-hexadecimal-requires c κs = (omega arith, sym (c .before .before .has-hexadecimal .ensures) ∙ not-false _ (c .before .if3 .left))
+read-hexadecimal-requires c κs = search needs
+
+enum-told : tie.Need-enum-told
+enum-told c = search needs
+
+enum-told-2 : tie.Need-enum-told-2
+enum-told-2 c = search needs
+
+returns-3 : tie.Need-returns-3
+returns-3 c = search needs
+
+slice-aggregate-hexadecimal-set : tie.Need-slice-aggregate-hexadecimal-set
+slice-aggregate-hexadecimal-set c = search needs
+
+hexadecimal-set-requires : tie.Need-hexadecimal-set-requires
+hexadecimal-set-requires c κs = (omega arith, hexadecimal-there _ _ _ (c .before .before .before .read-hexadecimal .ensures) (c .before .enum-told .given .1) .0)
 
 word-requires : tie.Need-word-requires
 word-requires c κs = search needs
@@ -52,10 +57,12 @@ next-number-spec =
     returns
     array-read-if2
     returns-2
-    slice-aggregate-has-hexadecimal
-    has-hexadecimal-requires
-    returns-3
     slice-aggregate-read-hexadecimal
     read-hexadecimal-requires
+    enum-told
+    enum-told-2
+    returns-3
+    slice-aggregate-hexadecimal-set
+    hexadecimal-set-requires
     word-requires
     returns-4)

@@ -7,10 +7,10 @@ use Rattle.replay.proofs.run.Statement.{statement}
 use Rattle.replay.proofs.run.Tie as tie
 
 abbrev Inv-loop : tie.InvT-loop
-Inv-loop rec₀ left₀ rec left = length rec ≡ length rec₀
+Inv-loop rec₀ count₀ left₀ rec count left = length rec ≡ length rec₀
 
 abbrev μ-loop : tie.MeasureT-loop
-μ-loop rec₀ left₀ rec left = left
+μ-loop rec₀ count₀ left₀ rec count left = left
 
 loop-holds : tie.Need-loop-holds Inv-loop μ-loop
 loop-holds c = search needs
@@ -27,11 +27,17 @@ same-length c = search needs
 returns : tie.Need-returns Inv-loop μ-loop
 returns c = search needs
 
-array-read-command : tie.Need-array-read-command Inv-loop μ-loop
-array-read-command c = search needs
+array-read-step : tie.Need-array-read-step Inv-loop μ-loop
+array-read-step c = search needs
 
-command-requires : tie.Need-command-requires Inv-loop μ-loop
-command-requires c κs = search needs
+step-requires : tie.Need-step-requires Inv-loop μ-loop
+step-requires c κs = search needs
+
+enum-known-next : tie.Need-enum-known-next Inv-loop μ-loop
+enum-known-next c = search needs
+
+enum-told : tie.Need-enum-told Inv-loop μ-loop
+enum-told c = search needs
 
 same-length-2 : tie.Need-same-length-2 Inv-loop μ-loop
 same-length-2 c = search needs
@@ -65,8 +71,10 @@ run-spec =
     read-full-requires
     same-length
     returns
-    array-read-command
-    command-requires
+    array-read-step
+    step-requires
+    enum-known-next
+    enum-told
     same-length-2
     returns-2
     sub-left

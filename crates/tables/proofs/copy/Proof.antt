@@ -3,10 +3,10 @@
 use borrow.Author.Needs.{needs}
 use mathlib.Core.Path.{_≡_, refl}
 use native.Mathlib.Omega.{arith}
-use Prim.Native.Nat.{ℕ, _+_, _-_, _≤_, _<_}
-use lib.ListN.{length, getD, set, take, length-set}
-use Rattle.tables.specs.Stores.{putAt}
-use Rattle.tables.proofs.Stores.{copied-more, copied-all}
+use Prim.Native.Nat.{_-_, _≤_}
+use lib.ListN.{length, take, length-set}
+use Rattle.lists.specs.Stores.{putAt}
+use Rattle.lists.proofs.Stores.{putAt-take, putAt-taken}
 use Rattle.tables.proofs.copy.Statement.{statement}
 use Rattle.tables.proofs.copy.Tie as tie
 
@@ -45,17 +45,14 @@ loop-again : tie.Need-loop-again Inv-loop μ-loop
 loop-again c = (
   omega arith,
   simp length-set (c .before .before .loop .inv .1),
-  copied-more (c .before .before .before .args .ws .now) (c .before .before .loop .ws) (c .before .before .before .args .src .now)
-      (c .before .before .before .args .at) (c .before .before .loop .i) (c .before .loop-test .taken) (c .before .before .loop .inv .2),
+  putAt-take _ _ _ _ (c .before .loop-test .taken) (c .before .before .loop .inv .2),
 )
 
 same-length : tie.Need-same-length Inv-loop μ-loop
 same-length c = search needs
 
 returns : tie.Need-returns Inv-loop μ-loop
-returns c =
-    copied-all (c .before .before .args .ws .now) (c .before .loop .ws) (c .before .before .args .src .now) (c .before .before .args .at)
-    (c .before .loop .i) (c .loop-test .left) (c .before .loop .inv .2)
+returns c = putAt-taken _ _ _ _ (c .loop-test .left) (c .before .loop .inv .2)
 
 pub copy-spec : {M : Type 1} → statement M
 copy-spec =

@@ -1,19 +1,25 @@
 -- The four digits are there.
 -- Assumes nothing.
-use Rattle.crewtext.proofs.Lines.{said-yes}
 use borrow.Author.Needs.{needs}
 use native.Mathlib.Omega.{arith}
+use Rattle.text.proofs.Hexadecimals.{hexadecimal-there}
 use Rattle.text_cases.proofs.number_at.Statement.{statement}
 use Rattle.text_cases.proofs.number_at.Tie as tie
 
-has-hexadecimal-requires : tie.Need-has-hexadecimal-requires
-has-hexadecimal-requires c κs = search needs
+read-hexadecimal-requires : tie.Need-read-hexadecimal-requires
+read-hexadecimal-requires c κs = search needs
+
+enum-told : tie.Need-enum-told
+enum-told c = search needs
+
+enum-told-2 : tie.Need-enum-told-2
+enum-told-2 c = search needs
 
 returns : tie.Need-returns
 returns c = search needs
 
-read-hexadecimal-requires : tie.Need-read-hexadecimal-requires
-read-hexadecimal-requires c κs = (omega arith, said-yes (c .before .has-hexadecimal .ensures) (c .if1 .left))
+hexadecimal-set-requires : tie.Need-hexadecimal-set-requires
+hexadecimal-set-requires c κs = (omega arith, hexadecimal-there _ _ _ (c .before .before .read-hexadecimal .ensures) (c .enum-told .given .1) .0)
 
 word-requires : tie.Need-word-requires
 word-requires c κs = search needs
@@ -24,4 +30,11 @@ returns-2 c = search needs
 pub number-at-spec : {M : Type 1} → statement M
 number-at-spec =
     tie.close
-    (tie.spec has-hexadecimal-requires returns read-hexadecimal-requires word-requires returns-2)
+    (tie.spec
+    read-hexadecimal-requires
+    enum-told
+    enum-told-2
+    returns
+    hexadecimal-set-requires
+    word-requires
+    returns-2)

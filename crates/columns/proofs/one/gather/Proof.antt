@@ -6,7 +6,7 @@ use native.Mathlib.Omega.{arith}
 use Prim.Native.Nat.{_+_, _-_, _*_, _≤_}
 use lib.ListN.{getD}
 use Rattle.sets.specs.Sets.{has, collect}
-use Rattle.sets.proofs.Order.{collect-zero, collect-more}
+use Rattle.sets.proofs.Order.{collect-zero, collect-bit}
 use Rattle.sets.proofs.Written.{test-item}
 use Rattle.columns.proofs.one.gather.Statement.{statement}
 use Rattle.columns.proofs.one.gather.Tie as tie
@@ -48,7 +48,7 @@ loop-less : tie.Need-loop-less Inv-loop μ-loop
 loop-less c = search needs
 
 loop-again : tie.Need-loop-again Inv-loop μ-loop
-loop-again c = (search needs, rw (test-item _ _) at (c .with-bit .ensures) ∙ collect-more _ _ _ (c .before .before .before .loop .inv .1))
+loop-again c = (search needs, rw (test-item _ _) at (c .with-bit .ensures) ∙ collect-bit _ _ _ (omega arith) (c .before .before .before .loop .inv .1))
 
 returns : tie.Need-returns Inv-loop μ-loop
 returns c =

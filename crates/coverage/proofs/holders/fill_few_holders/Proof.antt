@@ -11,7 +11,8 @@ use Rattle.sets.specs.Sets.{has, collect}
 use Rattle.sets.proofs.Written.{words, held128}
 use Rattle.model.specs.Lists.{setAt}
 use Rattle.hierarchy.proofs.Sieving.{fewer, not-empty, is-empty}
-use Rattle.coverage.proofs.Sparing.{HeldBut, held-start, held-more, held-all}
+use Rattle.tables.proofs.Tables.{HeldBut, held-start, held-more}
+use Rattle.coverage.proofs.Sparing.{held-all}
 use Rattle.coverage.proofs.holders.fill_few_holders.Statement.{statement}
 use Rattle.coverage.proofs.holders.fill_few_holders.Tie as tie
 

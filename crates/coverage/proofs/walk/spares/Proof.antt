@@ -1,14 +1,12 @@
 -- The users not in `people`, and the permissions of u not in `asked`, have no bare grant.
 -- Assumes nothing.
 use borrow.Author.Needs.{needs}
-use mathlib.Core.Path.{_≡_, refl, sym, _∙_, ap}
-use mathlib.Core.Bool.{true, false, not}
+use mathlib.Core.Path.{_≡_, refl, _∙_}
+use mathlib.Core.Bool.{false}
 use mathlib.Core.Logic.{⊎-elim}
 use native.Mathlib.Omega.{arith}
 use lib.Count.{ones}
 use Rattle.sets.specs.Held.{set128, set256}
-use Rattle.sets.specs.Sets.{has, _∩_}
-use Rattle.model.specs.Lists.{setAt}
 use Rattle.hierarchy.proofs.Sieving.{fewer, not-empty, is-empty}
 use Rattle.coverage.proofs.Sparing.{People, Asking, people-start, people-more, asking-start, asking-more, walk-bare, walk-through, went-through, was-left}
 use Rattle.coverage.proofs.walk.spares.Statement.{statement}

@@ -1,11 +1,10 @@
 -- Each return is one way through `rowAt`.
 -- Assumes nothing.
-use Rattle.crewtext.proofs.Lines.{said-no, said-yes, row-number, row-other, row-comma, row-digits, row-end, row-whole}
-use Rattle.text.proofs.Bytes.{holds-end}
-use Rattle.text.proofs.Hexadecimals.{hex-end}
-use mathlib.Core.Path.{sym, _∙_}
 use borrow.Author.Needs.{needs}
-use native.Mathlib.Omega.{arith}
+use mathlib.Core.Path.{sym, _∙_}
+use Rattle.text.proofs.Bytes.{fixed-there, fixed-missing, line-end-there, line-end-missing}
+use Rattle.text.proofs.Hexadecimals.{hexadecimal-there, hexadecimal-missing}
+use Rattle.crewtext.proofs.Lines.{row-number, row-other, row-comma, row-digits, row-end, row-whole}
 use Rattle.crewtext.proofs.row.read_row.Statement.{statement}
 use Rattle.crewtext.proofs.row.read_row.Tie as tie
 
@@ -22,46 +21,65 @@ returns : tie.Need-returns
 returns c = row-number _ _ _ _ (sym (c .before .before .read-decimal .ensures) ∙ c .enum-told .given .1)
 
 returns-2 : tie.Need-returns-2
-returns-2 c = row-other _ _ _ _ (sym (c .before .before .before .before .read-decimal .ensures) ∙ c .before .before .value .given .1) (c .if1 .taken)
+returns-2 c =
+    let v = sym (c .before .before .before .before .read-decimal .ensures) ∙ c .before .before .value .given .1 in
+    row-other _ _ _ _ v (c .if1 .taken)
 
-slice-aggregate-holds : tie.Need-slice-aggregate-holds
-slice-aggregate-holds c = search needs
+slice-aggregate-read-fixed : tie.Need-slice-aggregate-read-fixed
+slice-aggregate-read-fixed c = search needs
 
-holds-requires : tie.Need-holds-requires
-holds-requires c κs = search needs
+read-fixed-requires : tie.Need-read-fixed-requires
+read-fixed-requires c κs = search needs
+
+enum-known-digits : tie.Need-enum-known-digits
+enum-known-digits c = search needs
+
+enum-told-2 : tie.Need-enum-told-2
+enum-told-2 c = search needs
 
 returns-3 : tie.Need-returns-3
-returns-3 c = row-comma _ _ _ _ (sym (c .before .before .before .before .before .before .before .read-decimal .ensures) ∙ c .before .before .before .before .before .value .given .1) (c .before .before .before .if1 .left) (said-no (c .before .holds .ensures) (c .if2 .taken))
+returns-3 c =
+    let v = sym (c .before .before .before .before .before .before .before .before .read-decimal .ensures) ∙ c .before .before .before .before .before .before .value .given .1 in
+    row-comma _ _ _ _ v (c .before .before .before .before .if1 .left) (fixed-missing _ _ _ (c .before .before .read-fixed .ensures) (c .enum-told2 .given .1))
 
-add-has-hexadecimal : tie.Need-add-has-hexadecimal
-add-has-hexadecimal c = omega (arith, holds-end _ _ _ (said-yes (c .before .holds .ensures) (c .if2 .left)))
+read-hexadecimal-requires : tie.Need-read-hexadecimal-requires
+read-hexadecimal-requires c κs = search needs
 
-has-hexadecimal-requires : tie.Need-has-hexadecimal-requires
-has-hexadecimal-requires c κs = search needs
+enum-known-end : tie.Need-enum-known-end
+enum-known-end c = search needs
+
+enum-told-3 : tie.Need-enum-told-3
+enum-told-3 c = search needs
 
 returns-4 : tie.Need-returns-4
-returns-4 c = row-digits _ _ _ _ (sym (c .before .before .before .before .before .before .before .before .before .read-decimal .ensures) ∙ c .before .before .before .before .before .before .before .value .given .1) (c .before .before .before .before .before .if1 .left) (said-yes (c .before .before .before .holds .ensures) (c .before .before .if2 .left)) (said-no (c .before .has-hexadecimal .ensures) (c .if3 .taken))
+returns-4 c =
+    let v = sym (c .before .before .before .before .before .before .before .before .before .before .before .before .read-decimal .ensures) ∙ c .before .before .before .before .before .before .before .before .before .before .value .given .1 in
+    let s = fixed-there _ _ _ (c .before .before .before .before .before .before .read-fixed .ensures) (c .before .before .before .before .digits .given .1) in
+    row-digits _ _ _ _ v (c .before .before .before .before .before .before .before .before .if1 .left) (s .0) (hexadecimal-missing _ _ _ (rw (s .1) at (c .before .before .read-hexadecimal .ensures)) (c .enum-told3 .given .1))
 
-add-holds : tie.Need-add-holds
-add-holds c = omega (arith, holds-end _ _ _ (said-yes (c .before .before .before .holds .ensures) (c .before .before .if2 .left)))
+read-line-end-requires : tie.Need-read-line-end-requires
+read-line-end-requires c κs = search needs
 
-add-holds-2 : tie.Need-add-holds-2
-add-holds-2 c = omega (arith, hex-end _ _ _ (said-yes (c .before .has-hexadecimal .ensures) (c .if3 .left)))
+enum-told-4 : tie.Need-enum-told-4
+enum-told-4 c = search needs
 
-slice-aggregate-holds-2 : tie.Need-slice-aggregate-holds-2
-slice-aggregate-holds-2 c = search needs
-
-holds-requires-2 : tie.Need-holds-requires-2
-holds-requires-2 c κs = search needs
+enum-told-5 : tie.Need-enum-told-5
+enum-told-5 c = search needs
 
 returns-5 : tie.Need-returns-5
-returns-5 c = row-end _ _ _ _ (sym (c .before .before .before .before .before .before .before .before .before .before .before .before .read-decimal .ensures) ∙ c .before .before .before .before .before .before .before .before .before .before .value .given .1) (c .before .before .before .before .before .before .before .before .if1 .left) (said-yes (c .before .before .before .before .before .before .holds .ensures) (c .before .before .before .before .before .if2 .left)) (said-yes (c .before .before .before .before .has-hexadecimal .ensures) (c .before .before .before .if3 .left)) (said-no (c .before .holds2 .ensures) (c .if4 .taken))
-
-add-t15 : tie.Need-add-t15
-add-t15 c = omega (arith, holds-end _ _ _ (said-yes (c .before .before .before .before .before .before .holds .ensures) (c .before .before .before .before .before .if2 .left)))
+returns-5 c =
+    let v = sym (c .before .before .before .before .before .before .before .before .before .before .before .before .before .before .before .before .read-decimal .ensures) ∙ c .before .before .before .before .before .before .before .before .before .before .before .before .before .before .value .given .1 in
+    let s = fixed-there _ _ _ (c .before .before .before .before .before .before .before .before .before .before .read-fixed .ensures) (c .before .before .before .before .before .before .before .before .digits .given .1) in
+    let d = hexadecimal-there _ _ _ (rw (s .1) at (c .before .before .before .before .before .before .read-hexadecimal .ensures)) (c .before .before .before .before .end .given .1) in
+    row-end _ _ _ _ v (c .before .before .before .before .before .before .before .before .before .before .before .before .if1 .left) (s .0) (d .0) (line-end-missing _ _ (rw (d .1) at (c .before .before .read-line-end .ensures)) (c .enum-told5 .given .1))
 
 returns-6 : tie.Need-returns-6
-returns-6 c = row-whole _ _ _ _ (sym (c .before .before .before .before .before .before .before .before .before .before .before .before .read-decimal .ensures) ∙ c .before .before .before .before .before .before .before .before .before .before .value .given .1) (c .before .before .before .before .before .before .before .before .if1 .left) (said-yes (c .before .before .before .before .before .before .holds .ensures) (c .before .before .before .before .before .if2 .left)) (said-yes (c .before .before .before .before .has-hexadecimal .ensures) (c .before .before .before .if3 .left)) (said-yes (c .before .holds2 .ensures) (c .if4 .left))
+returns-6 c =
+    let v = sym (c .before .before .before .before .before .before .before .before .before .before .before .before .before .before .before .before .read-decimal .ensures) ∙ c .before .before .before .before .before .before .before .before .before .before .before .before .before .before .value .given .1 in
+    let s = fixed-there _ _ _ (c .before .before .before .before .before .before .before .before .before .before .read-fixed .ensures) (c .before .before .before .before .before .before .before .before .digits .given .1) in
+    let d = hexadecimal-there _ _ _ (rw (s .1) at (c .before .before .before .before .before .before .read-hexadecimal .ensures)) (c .before .before .before .before .end .given .1) in
+    let e = line-end-there _ _ (rw (d .1) at (c .before .before .read-line-end .ensures)) (c .enum-told4 .given .1) in
+    rw (s .1) (row-whole _ _ _ _ v (c .before .before .before .before .before .before .before .before .before .before .before .before .if1 .left) (s .0) (d .0) (e .0))
 
 pub read-row-spec : {M : Type 1} → statement M
 read-row-spec =
@@ -72,16 +90,17 @@ read-row-spec =
     enum-told
     returns
     returns-2
-    slice-aggregate-holds
-    holds-requires
+    slice-aggregate-read-fixed
+    read-fixed-requires
+    enum-known-digits
+    enum-told-2
     returns-3
-    add-has-hexadecimal
-    has-hexadecimal-requires
+    read-hexadecimal-requires
+    enum-known-end
+    enum-told-3
     returns-4
-    add-holds
-    add-holds-2
-    slice-aggregate-holds-2
-    holds-requires-2
+    read-line-end-requires
+    enum-told-4
+    enum-told-5
     returns-5
-    add-t15
     returns-6)

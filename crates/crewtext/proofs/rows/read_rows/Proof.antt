@@ -43,8 +43,8 @@ returns : tie.Need-returns Inv-loop μ-loop
 unfolding digitsFor
 returns c = fill-broken _ _ _ _ _ _ (c .before .before .before .before .loop .inv .3) _ _ (c .before .before .before .loop-test .taken) (sym (c .before .before .read-row .ensures) ∙ c .enum-told .given .1)
 
-read-hexadecimal-requires : tie.Need-read-hexadecimal-requires Inv-loop μ-loop
-read-hexadecimal-requires c κs = (omega arith, row-has _ _ _ _ _ (sym (c .before .before .before .read-row .ensures) ∙ c .before .digits .given .1))
+hexadecimal-set-requires : tie.Need-hexadecimal-set-requires Inv-loop μ-loop
+hexadecimal-set-requires c κs = (omega arith, row-has _ _ _ _ _ (sym (c .before .before .before .read-row .ensures) ∙ c .before .digits .given .1))
 
 is-subset-requires : tie.Need-is-subset-requires Inv-loop μ-loop
 is-subset-requires c κs = search needs
@@ -54,13 +54,13 @@ same-length-2 c = search needs
 
 returns-2 : tie.Need-returns-2 Inv-loop μ-loop
 unfolding digitsFor
-returns-2 c = fill-bit _ _ _ _ _ _ (c .before .before .before .before .before .before .before .before .loop .inv .3) _ _ _ _ (c .before .before .before .before .before .before .before .loop-test .taken) (sym (c .before .before .before .before .before .before .read-row .ensures) ∙ c .before .before .before .before .digits .given .1) (c .before .before .read-hexadecimal .ensures) (bit-no _ _ _ (omega arith) (c .before .is-subset .ensures) (c .before .before .before .before .before .before .before .before .before .below .ensures) (c .if1 .taken))
+returns-2 c = fill-bit _ _ _ _ _ _ (c .before .before .before .before .before .before .before .before .loop .inv .3) _ _ _ _ (c .before .before .before .before .before .before .before .loop-test .taken) (sym (c .before .before .before .before .before .before .read-row .ensures) ∙ c .before .before .before .before .digits .given .1) (c .before .before .hexadecimal-set .ensures) (bit-no _ _ _ (omega arith) (c .before .is-subset .ensures) (c .before .before .before .before .before .before .before .before .before .below .ensures) (c .if1 .taken))
 
-mul-put-set : tie.Need-mul-put-set Inv-loop μ-loop
-mul-put-set c = search needs
+mul-store256 : tie.Need-mul-store256 Inv-loop μ-loop
+mul-store256 c = search needs
 
-put-set-requires : tie.Need-put-set-requires Inv-loop μ-loop
-put-set-requires c κs = search needs
+store256-requires : tie.Need-store256-requires Inv-loop μ-loop
+store256-requires c κs = search needs
 
 add-at : tie.Need-add-at Inv-loop μ-loop
 add-at c = omega (arith, row-room _ _ _ _ _ (sym (c .before .before .before .before .before .before .before .before .before .before .read-row .ensures) ∙ c .before .before .before .before .before .before .before .before .digits .given .1))
@@ -76,7 +76,7 @@ loop-less c = search needs
 
 loop-again : tie.Need-loop-again Inv-loop μ-loop
 unfolding digitsFor
-loop-again c = (omega arith, search needs, omega arith, fill-more _ _ _ _ _ _ (c .before .before .before .before .before .before .before .before .before .before .before .before .loop .inv .3) _ _ _ (omega arith) (sym (c .before .before .before .before .before .before .before .before .before .before .read-row .ensures) ∙ c .before .before .before .before .before .before .before .before .digits .given .1) (c .before .before .before .before .before .before .read-hexadecimal .ensures) (bit-yes _ _ _ (omega arith) (c .before .before .before .before .before .is-subset .ensures) (c .before .before .before .before .before .before .before .before .before .before .before .before .before .below .ensures) (c .before .before .before .before .if1 .left)) (c .before .before .put-set .ensures))
+loop-again c = (omega arith, search needs, omega arith, fill-more _ _ _ _ _ _ (c .before .before .before .before .before .before .before .before .before .before .before .before .loop .inv .3) _ _ _ (omega arith) (sym (c .before .before .before .before .before .before .before .before .before .before .read-row .ensures) ∙ c .before .before .before .before .before .before .before .before .digits .given .1) (c .before .before .before .before .before .before .hexadecimal-set .ensures) (bit-yes _ _ _ (omega arith) (c .before .before .before .before .before .is-subset .ensures) (c .before .before .before .before .before .before .before .before .before .before .before .before .before .below .ensures) (c .before .before .before .before .if1 .left)) (c .before .before .store256 .ensures))
 
 same-length-3 : tie.Need-same-length-3 Inv-loop μ-loop
 same-length-3 c = search needs
@@ -99,12 +99,12 @@ read-rows-spec =
     enum-told
     same-length
     returns
-    read-hexadecimal-requires
+    hexadecimal-set-requires
     is-subset-requires
     same-length-2
     returns-2
-    mul-put-set
-    put-set-requires
+    mul-store256
+    store256-requires
     add-at
     add-at-2
     add-u

@@ -15,6 +15,9 @@ load128-requires c κs = search needs
 remove-requires : tie.Need-remove-requires
 remove-requires c κs = search needs
 
+heirs-requires : tie.Need-heirs-requires
+heirs-requires c κs = search needs
+
 store128-requires : tie.Need-store128-requires
 store128-requires c κs = search needs
 
@@ -34,8 +37,8 @@ same-length : tie.Need-same-length
 same-length c = search needs
 
 returns : tie.Need-returns
-returns c st roles lim e ix =
-    taken-at st lim roles _ _ _ _ e ix _ (c .before .before .before .before .before .before .before .before .before .before .before .before .before .before .before .before .before .before .before .before .before .pre .3) _ _ _ _ _ _ (c .before .before .before .before .before .before .before .before .before .before .before .before .before .before .before .load128 .ensures) (c .before .before .before .before .before .before .before .before .before .before .before .before .before .before .remove .ensures) (c .before .before .before .before .before .before .before .before .insert .ensures) (c .before .before .before .insert2 .ensures)
+returns c = λ st roles lim e ix.
+    taken-at st lim roles _ _ _ _ e ix _ (c .before .before .before .before .before .before .before .before .before .before .before .before .before .before .before .before .before .before .before .before .before .before .before .pre .3) _ _ _ _ _ _ _ (c .before .before .before .before .before .before .before .before .before .before .before .before .before .before .before .before .before .load128 .ensures) (c .before .before .before .before .before .before .before .before .before .before .before .before .before .before .before .before .remove .ensures) (c .before .before .before .before .before .before .before .before .insert .ensures) (c .before .before .before .before .before .before .before .before .before .before .before .before .before .before .heirs .ensures) (c .before .before .before .insert2 .ensures)
     (λ st roles lim count b e ix d.
     changed st _ _ _ _ _ _ roles _ _ _ _ lim count b e ix d (c .before .before .before .before .before .before .before .before .before .before .before .before .store128 .ensures) (c .before .before .before .before .before .before .before .rewrite-uppers .ensures) (c .before .before .rewrite-lowers .ensures))
 
@@ -46,6 +49,7 @@ take-out-at-spec =
     slice-read-c
     load128-requires
     remove-requires
+    heirs-requires
     store128-requires
     insert-requires
     rewrite-uppers-requires

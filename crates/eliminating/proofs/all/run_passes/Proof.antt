@@ -5,7 +5,7 @@ use mathlib.Core.Path.{_≡_, refl, sym, _∙_}
 use native.Mathlib.Omega.{arith}
 use lib.ListN.{length}
 use Rattle.sets.specs.Held.{set128}
-use Rattle.hierarchy.proofs.Sieving.{not-empty, is-empty}
+use Rattle.hierarchy.proofs.Sieving.{is-empty}
 use Rattle.sets.proofs.Truth.{So-not, eqb-iff}
 use Rattle.model.specs.Record.{recordLength}
 use Rattle.trials.specs.Trying.{weightsIn}

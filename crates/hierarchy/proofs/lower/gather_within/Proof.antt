@@ -6,7 +6,7 @@ use native.Mathlib.Omega.{arith}
 use Prim.Native.Nat.{_+_, _-_, _*_, _≤_}
 use Rattle.sets.specs.Held.{set256}
 use Rattle.sets.specs.Sets.{subset, collect}
-use Rattle.sets.proofs.Order.{collect-zero, collect-more}
+use Rattle.sets.proofs.Order.{collect-zero, collect-bit}
 use Rattle.model.specs.Lists.{setAt}
 use Rattle.hierarchy.proofs.lower.gather_within.Statement.{statement}
 use Rattle.hierarchy.proofs.lower.gather_within.Tie as tie
@@ -42,7 +42,7 @@ loop-less : tie.Need-loop-less Inv-loop μ-loop
 loop-less c = search needs
 
 loop-again : tie.Need-loop-again Inv-loop μ-loop
-loop-again c = (search needs, rw (c .before .is-subset .ensures, c .before .before .load256 .ensures) at (c .with-bit .ensures) ∙ collect-more _ _ _ (c .before .before .before .before .loop .inv .1))
+loop-again c = (search needs, rw (c .before .is-subset .ensures, c .before .before .load256 .ensures) at (c .with-bit .ensures) ∙ collect-bit _ _ _ (omega arith) (c .before .before .before .before .loop .inv .1))
 
 returns : tie.Need-returns Inv-loop μ-loop
 returns c =

@@ -1,7 +1,7 @@
 -- The maximal ones of the lower roles that stand.
 -- Assumes nothing.
 use borrow.Author.Needs.{needs}
-use mathlib.Core.Path.{_≡_, sym, _∙_}
+use mathlib.Core.Path.{sym, _∙_}
 use Rattle.hierarchy.proofs.Building.{absent, stands, juniors-found}
 use Rattle.model.proofs.Building.{absent-juniors}
 use Rattle.hierarchy.proofs.rows.juniors_of.Statement.{statement}

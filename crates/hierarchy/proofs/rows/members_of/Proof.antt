@@ -1,7 +1,7 @@
 -- The users of k less those of its immediate seniors.
 -- Assumes nothing.
 use borrow.Author.Needs.{needs}
-use mathlib.Core.Path.{_≡_, sym, _∙_}
+use mathlib.Core.Path.{sym, _∙_}
 use Rattle.hierarchy.proofs.Building.{absent, stands, members-found}
 use Rattle.model.proofs.Building.{absent-members}
 use Rattle.hierarchy.proofs.rows.members_of.Statement.{statement}

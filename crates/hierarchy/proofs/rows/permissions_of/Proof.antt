@@ -1,7 +1,7 @@
 -- The set of k less those of its immediate juniors.
 -- Assumes nothing.
 use borrow.Author.Needs.{needs}
-use mathlib.Core.Path.{_≡_, sym, _∙_}
+use mathlib.Core.Path.{sym, _∙_}
 use Rattle.hierarchy.proofs.Building.{absent, stands, permissions-found}
 use Rattle.model.proofs.Building.{absent-permissions}
 use Rattle.hierarchy.proofs.rows.permissions_of.Statement.{statement}

@@ -2,10 +2,10 @@
 -- Assumes nothing.
 use borrow.Author.Needs.{needs}
 use mathlib.Core.Path.{_≡_, refl, sym, _∙_, ap₂}
-use Prim.Native.Nat.{ℕ, _^_, _<_}
+use Prim.Native.Nat.{_^_, _<_}
 use native.Mathlib.Omega.{arith}
 use lib.Count.{ones}
-use Rattle.sets.specs.Held.{set128, set256}
+use Rattle.sets.specs.Held.{set128}
 use Rattle.sets.specs.Sets.{_∖_}
 use Rattle.sets.proofs.Written.{words, held128}
 use Rattle.sets.proofs.Order.{∖-lt}

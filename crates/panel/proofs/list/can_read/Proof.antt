@@ -1,11 +1,10 @@
 -- The kinds before i are known.
 -- Assumes nothing.
-use mathlib.Core.Path.{_≡_, refl, sym, _∙_}
 use mathlib.Core.Bool.{So}
-use Prim.Native.Nat.{_-_, _*_, _/_, _≤_}
+use Prim.Native.Nat.{_-_, _*_, _≤_}
 use native.Mathlib.Omega.{arith}
 use lib.Dec.{ltb}
-use lib.ListN.{length, getD}
+use lib.ListN.{getD}
 use Rattle.sets.specs.Truth.{all}
 use Rattle.panel.proofs.Serving.{readable-not, readable-all, kinds-none, kinds-more}
 -- The kinds before i are known.

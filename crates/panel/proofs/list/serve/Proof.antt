@@ -1,7 +1,7 @@
 -- Three ways: the list can't be read; mining refuses; or condition 3.
 -- Assumes nothing.
 use borrow.Author.Needs.{needs}
-use mathlib.Core.Path.{refl, sym, _∙_}
+use mathlib.Core.Path.{sym, _∙_}
 use borrow.Author.Tests.{not-true, not-false}
 use Rattle.panel.proofs.Serving.{served-unreadable, served-refused, served-mined}
 use Rattle.panel.proofs.list.serve.Statement.{statement}

@@ -1,8 +1,8 @@
 -- The first i calls are made, and their answers written.
 -- Assumes nothing.
 use borrow.Author.Needs.{needs}
-use mathlib.Core.Path.{_≡_, refl, sym, _∙_}
-use Prim.Native.Nat.{_-_, _*_, _/_, _≤_}
+use mathlib.Core.Path.{_≡_, refl}
+use Prim.Native.Nat.{_-_, _≤_}
 use native.Mathlib.Omega.{arith}
 use lib.ListN.{length}
 use Rattle.panel.proofs.Serving.{readable-sizes, Serving, serving-start, serving-more, serving-all}

@@ -1,12 +1,10 @@
 -- The rows before u have no permission at m or above.
 -- Assumes nothing.
 use borrow.Author.Needs.{needs}
-use mathlib.Core.Path.{_≡_, sym, _∙_, ap}
+use mathlib.Core.Path.{sym, _∙_}
 use mathlib.Core.Bool.{So}
-use mathlib.Core.List.{List}
-use native.Mathlib.Omega.{arith}
 use native.Mathlib.Nat.{not-suc-le-zero}
-use Prim.Native.Nat.{ℕ, _+_, _*_, _^_, _-_, _≤_}
+use Prim.Native.Nat.{_+_, _*_, _^_, _-_, _≤_}
 use lib.Dec.{ltb}
 use borrow.Author.Tests.{not-true, not-false}
 use Rattle.sets.specs.Truth.{all}

@@ -1,7 +1,7 @@
 -- The regions, one after the other, make up the record.
 -- Assumes nothing.
 use borrow.Author.Needs.{needs}
-use mathlib.Core.Path.{_≡_, refl}
+use mathlib.Core.Path.{refl}
 use Rattle.records.proofs.Writing.{assembled-built, header-is}
 use Rattle.records.proofs.write.write_record.Statement.{statement}
 use Rattle.records.proofs.write.write_record.Tie as tie

@@ -2,7 +2,6 @@
 -- Assumes nothing.
 use Rattle.text.proofs.Digits.{digit-low, digit-decimal, digit-between, digit-letter, digit-high}
 use mathlib.Core.Path.{sym}
-use Prim.Native.Nat.{_-_}
 use borrow.Author.Needs.{needs}
 use native.Mathlib.Omega.{arith}
 use Rattle.text.proofs.digit.digit_of.Statement.{statement}

@@ -1,12 +1,12 @@
 -- All bytes before place i agree.
 -- Assumes nothing.
-use Rattle.text.proofs.Bytes.{all-none, all-more, holds-short, holds-differs, holds-through}
+use Rattle.text.proofs.Bytes.{holds-short, holds-differs, holds-through}
 use Prim.Native.Nat.{_+_, _-_, _≤_}
 use mathlib.Core.Bool.{So}
 use lib.Dec.{eqb}
 use lib.ListN.{length, getD}
 use Rattle.sets.specs.Truth.{all}
-use Rattle.sets.proofs.Truth.{eqb-iff}
+use Rattle.sets.proofs.Truth.{all-none, all-more, eqb-iff}
 use mathlib.Core.Path.{sym}
 use borrow.Author.Needs.{needs}
 use native.Mathlib.Omega.{arith}

@@ -1,6 +1,6 @@
 -- The row of the role, counted.
 -- Assumes nothing.
-use mathlib.Core.Path.{_≡_, refl, ap₂}
+use mathlib.Core.Path.{refl, ap₂}
 use Prim.Native.Nat.{_+_, _^_, _<_}
 use native.Mathlib.Omega.{arith}
 use borrow.Author.Needs.{needs}
