@@ -26,8 +26,8 @@ CONSTANTS = {"PANEL_RECORD_WORDS": ("tables/src/layout.rt", "LENGTH"), "PANEL_AT
              "PANEL_AT_PERMISSIONS": ("tables/src/layout.rt", "PERMISSIONS"),
              "PANEL_AT_MEMBERS": ("tables/src/layout.rt", "MEMBERS"),
              "PANEL_AT_JUNIORS": ("tables/src/layout.rt", "JUNIORS"),
-             "PANEL_ROWS_WORDS": ("crewtext/src/lib.rt", "BUFFER"),
-             "PANEL_TEXT_BYTES": ("crewtext/src/lib.rt", "LONGEST")}
+             "PANEL_ROWS_WORDS": ("text_crew/src/lib.rt", "BUFFER"),
+             "PANEL_TEXT_BYTES": ("text_crew/src/lib.rt", "LONGEST")}
 
 
 def c_name(struct):
@@ -143,7 +143,7 @@ def main():
     for compiler, _, remedy in COMPILERS:
         if shutil.which(compiler) is None:
             sys.exit("tests/header.py: %s is missing: %s" % (compiler, remedy))
-    sources = [source for name in ("panel", "call_*", "crewtext") for source in sorted((ROOT / "crates").glob(name + "/src/*.rt"))]
+    sources = [source for name in ("panel", "call_*", "text_crew") for source in sorted((ROOT / "crates").glob(name + "/src/*.rt"))]
     crate, header = exported(sources), declared()
     faults = list(differences(crate, header))
     for compiler, words, _ in COMPILERS if not faults else ():

@@ -29,12 +29,12 @@ def generate():
     """All files, as {path from the root: bytes}."""
     files = {}
     for crate, function in TARGETS.items():
-        for name, content in function(random.Random("vectors of " + crate)).items():
+        for name, content in function(random.Random("vectors of " + function.__name__)).items():
             files[Path("crates") / crate / name] = content
     return files
 
 
-@target("set_cases")
+@target("test_sets")
 def set_cases(rng):
     """The set library at the word borders, straight from Python's sets. Fields: contains(A, i), count(A), count(B),
     lowest(A), highest(B), is_proper_subset(A, B), less(A, B); A is {i}, B all up to i, both cut at the width."""
@@ -73,7 +73,7 @@ def damaged_texts():
     ]
 
 
-@target("text_cases")
+@target("test_text")
 def text_cases(rng):
     """The crew reader on good and damaged texts. A case on standard input: the lengths of the text and of the buffer,
     whose words are all 7, in four hexadecimal digits each, then the text. The digest takes 33 times what was before
@@ -116,14 +116,14 @@ def text_cases(rng):
     return {"stdin": stdin, "stdout": b"".join(lines)}
 
 
-@target("worked_cases")
+@target("test_worked")
 def worked_cases(rng):
     """Mining, quality and may on the cases of document 01, on lists at its limits and on damaged records."""
     return {"stdout": "".join(line + "\n" for line in worked.lines()).encode("ascii")}
 
 
 class Script:
-    """A script for the program `replay`, made beside what the model answers to it. The record goes from command to command; `beyond` are the
+    """A script for the program `test_replay`, made beside what the model answers to it. The record goes from command to command; `beyond` are the
     program's words that are not lent."""
 
     def __init__(self):
@@ -352,7 +352,7 @@ def served_lists(script, rng):
     script.serve(3, 3, words, [])
 
 
-@target("replay")
+@target("test_replay")
 def replay(rng):
     """Lists of strikes, restorations, eliminations and reviews, good and refused, with the two calls that read and damaged records in between; then
     the lists of guards.py, the worst ones, records of other lengths, and lists served in one go. The last line but one can't be read, so the strike after it is not made."""
@@ -426,7 +426,7 @@ def replay(rng):
     return {"stdin": stdin.encode("ascii"), "stdout": ("".join(script.lines) + "unreadable\n").encode("ascii")}
 
 
-@target("listing_cases")
+@target("test_listing")
 def listing_cases(rng):
     """What the lister prints for crew texts of every kind and at the limits of 01, and for damaged ones."""
     lists = [(3, 3, [3, 6, 7]), (1, 1, [0]), (1, 1, [1]), (2, 3, [5, 5]), (3, 4, [0, 0, 0]), (1, 256, [2 ** 256 - 1]), (2, 255, [2 ** 254, 1]),

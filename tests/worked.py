@@ -1,4 +1,4 @@
-"""What the program `worked_cases` prints, case by case, from the model."""
+"""What the program `test_worked` prints, case by case, from the model."""
 import random
 from functools import reduce
 from operator import or_

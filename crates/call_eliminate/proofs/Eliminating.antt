@@ -16,10 +16,10 @@ use Rattle.model.specs.State.{rolesOf}
 use Rattle.model.specs.Record.{stateOf, sound}
 use Rattle.model.specs.Calls.{Edited, edit}
 use Rattle.model.proofs.Bounds.{tolerance-iff}
-use Rattle.trials.specs.declared.progress.Progress.{Progress}
-use Rattle.trials.specs.Trying.{Ready, Kin}
-use Rattle.eliminating.specs.declared.turn.Tolerance as tolerance
-use Rattle.eliminating.specs.Passing.{toleranceIn, Ended}
+use Rattle.edit_trials.specs.declared.progress.Progress.{Progress}
+use Rattle.edit_trials.specs.Trying.{Ready, Kin}
+use Rattle.edit_eliminate.specs.declared.turn.Tolerance as tolerance
+use Rattle.edit_eliminate.specs.Passing.{toleranceIn, Ended}
 use Rattle.calls.proofs.Edits.{refusedWith, edit-refused, run-given}
 use Rattle.call_eliminate.specs.declared.EliminateAnswer.{EliminateAnswer}
 use Rattle.call_eliminate.specs.Answers.{eliminateGiven, toleranceOf}

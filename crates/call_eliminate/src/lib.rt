@@ -2,15 +2,15 @@ ghost use mathlib.Core.Path.{_≡_};
 ghost use Rattle.model.specs.Calls.{edit};
 ghost use Rattle.model.specs.Machine.{toleranceAllowed};
 ghost use Rattle.model.specs.Machine.Call.{eliminate};
-ghost use Rattle.reading.specs.Reading.{weightsOf};
+ghost use Rattle.quality.specs.Reading.{weightsOf};
 ghost use Rattle.call_eliminate.specs.Answers.{toleranceOf, eliminateGiven};
-use eliminating::Tolerance;
-use eliminating::eliminate_all;
-use reading::count_rows;
-use reading::weights_allowed;
+use edit_eliminate::Tolerance;
+use edit_eliminate::eliminate_all;
+use edit_trials::Weights;
+use quality::count_rows;
+use quality::weights_allowed;
 use records::is_sound;
 use tables::LENGTH;
-use trials::Weights;
 
 // The refusal's number, or 0, and beside 0 how many roles were struck, and how many were examined.
 #[repr(C)]

@@ -1,10 +1,10 @@
 ghost use mathlib.Core.Path.{_≡_};
 ghost use Rattle.model.specs.Calls.{qualityOf};
-ghost use Rattle.reading.specs.Reading.{weightsOf};
+ghost use Rattle.quality.specs.Reading.{weightsOf};
 ghost use Rattle.call_quality.specs.Answers.{qualityTold};
-use reading::count_rows;
-use reading::weigh;
-use reading::weights_allowed;
+use quality::count_rows;
+use quality::weigh;
+use quality::weights_allowed;
 use records::record_sound;
 use tables::LENGTH;
 

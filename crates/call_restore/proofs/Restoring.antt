@@ -17,7 +17,7 @@ use Rattle.model.specs.Record.{built, stateOf, sound}
 use Rattle.model.specs.Calls.{Edited, edit}
 use Rattle.model.proofs.Record.{Limits, sound-built}
 use Rattle.model.proofs.Steps.{restore-accepts}
-use Rattle.building.specs.Tables.{Indexed}
+use Rattle.indexes.specs.Tables.{Indexed}
 use Rattle.calls.proofs.Edits.{refusedWith, edit-refused, edit-accepted, sound-limits, stands-told, unknown, number, known-on}
 use Rattle.call_restore.specs.declared.RestoreAnswer.{RestoreAnswer}
 use Rattle.call_restore.specs.Answers.{restored}

@@ -2,7 +2,7 @@ ghost use mathlib.Core.Path.{_≡_};
 ghost use Rattle.model.specs.Calls.{edit};
 ghost use Rattle.model.specs.Machine.Call.{restore};
 ghost use Rattle.call_restore.specs.Answers.{restored};
-use editing::put_back;
+use edit_rows::put_back;
 use records::is_sound;
 use tables::LENGTH;
 use tables::STANDING;

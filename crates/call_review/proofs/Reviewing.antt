@@ -12,8 +12,8 @@ use Rattle.model.specs.Machine.Call.{review}
 use Rattle.model.specs.State.{rolesOf}
 use Rattle.model.specs.Record.{stateOf, sound}
 use Rattle.model.specs.Calls.{Edited, edit}
-use Rattle.trials.specs.declared.progress.Progress.{Progress}
-use Rattle.trials.specs.Trying.{Ready, Kin, runAt}
+use Rattle.edit_trials.specs.declared.progress.Progress.{Progress}
+use Rattle.edit_trials.specs.Trying.{Ready, Kin, runAt}
 use Rattle.calls.proofs.Edits.{refusedWith, edit-refused, run-given}
 use Rattle.call_review.specs.declared.ReviewAnswer.{ReviewAnswer}
 use Rattle.call_review.specs.Answers.{reviewGiven}

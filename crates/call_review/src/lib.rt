@@ -1,14 +1,14 @@
 ghost use mathlib.Core.Path.{_≡_};
 ghost use Rattle.model.specs.Calls.{edit};
 ghost use Rattle.model.specs.Machine.Call.{review};
-ghost use Rattle.reading.specs.Reading.{weightsOf};
+ghost use Rattle.quality.specs.Reading.{weightsOf};
 ghost use Rattle.call_review.specs.Answers.{reviewGiven};
-use reading::count_rows;
-use reading::weights_allowed;
+use edit_review::review_all;
+use edit_trials::Weights;
+use quality::count_rows;
+use quality::weights_allowed;
 use records::is_sound;
-use reviewing::review_all;
 use tables::LENGTH;
-use trials::Weights;
 
 // The refusal's number, or 0, and beside 0 how many roles were restored, and how many were examined.
 #[repr(C)]

@@ -21,13 +21,13 @@ use Rattle.model.specs.Calls.{Edited, unfit, edit}
 use Rattle.model.proofs.Record.{Limits, sound-iff, sound-built}
 use Rattle.model.proofs.Steps.{step-accepted, step-refused}
 use Rattle.model.proofs.Claim.{edit-given, edit-words}
-use Rattle.building.specs.Tables.{Indexed}
-use Rattle.editing.proofs.Changing.{count, few, standing-read}
-use Rattle.reading.specs.declared.quality.Counts.{Counts}
-use Rattle.reading.specs.Reading.{countsOf}
-use Rattle.reading.proofs.Sound.{sound-counts}
-use Rattle.trials.specs.declared.progress.Progress.{Progress}
-use Rattle.trials.specs.Trying.{Ready, Exact, Kin, runAt}
+use Rattle.indexes.specs.Tables.{Indexed}
+use Rattle.edit_rows.proofs.Changing.{count, few, standing-read}
+use Rattle.quality.specs.declared.quality.Counts.{Counts}
+use Rattle.quality.specs.Reading.{countsOf}
+use Rattle.quality.proofs.Sound.{sound-counts}
+use Rattle.edit_trials.specs.declared.progress.Progress.{Progress}
+use Rattle.edit_trials.specs.Trying.{Ready, Exact, Kin, runAt}
 use Rattle.calls.proofs.Fitting.{some, unfit-1, unfit-5}
 
 -- ---- any call

@@ -15,11 +15,11 @@ use Rattle.model.specs.Lists.{setAt}
 use Rattle.text.specs.Fixed.{comma, lineEnd}
 use Rattle.text.specs.Decimal.{decimal}
 use Rattle.text.specs.Hexadecimal.{hexadecimal}
-use Rattle.lists.specs.Stores.{putAt}
-use Rattle.lists.proofs.Stores.{putAt-append}
+use Rattle.stores.specs.Stores.{putAt}
+use Rattle.stores.proofs.Stores.{putAt-append}
 use Rattle.text.proofs.Decimals.{length-decimal}
 use Rattle.text.proofs.Hexadecimals.{length-hexadecimal}
-use Rattle.crewtext.specs.Format.{digitsFor}
+use Rattle.text_crew.specs.Format.{digitsFor}
 use Rattle.listing.specs.Listing.{field, line, linesTo, headLine, refusedText, rolesWord, refusedWord}
 use Rattle.listing.specs.Words.{Limited, wordsLine, standingLine, wordsLines}
 

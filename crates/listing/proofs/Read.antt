@@ -20,14 +20,14 @@ use Rattle.model.proofs.Lists.{length-rowsAt, tabulate-same, setAt-same}
 use Rattle.model.proofs.Record.{withinLimits-iff, rowsWithin-iff, state-back}
 use Rattle.model.proofs.Steps.{Fit, fresh-fit, after-fit}
 use Rattle.model.proofs.Claim.{fit-sound}
-use Rattle.crewtext.specs.declared.CrewRead.{CrewRead}
-use Rattle.crewtext.specs.declared.header.Header.{Header}
-use Rattle.crewtext.specs.declared.header.Header.the-variants.{Crew, Malformed, Beyond}
-use Rattle.crewtext.specs.Reader.{Answer, Read, given, refusal, afterRows, afterHeader, rowsTo, headerAt, readCrew, laid, bufferLength, longestText}
-use Rattle.crewtext.specs.Reader.Read.{rowsRead, badForm, badBit}
-use Rattle.crewtext.proofs.Laid.{length-laid}
-use Rattle.crewtext.proofs.Canonical.{Accepted, accepted, words-hold}
-use Rattle.lists.specs.Stores.{putAt}
+use Rattle.text_crew.specs.declared.CrewRead.{CrewRead}
+use Rattle.text_crew.specs.declared.header.Header.{Header}
+use Rattle.text_crew.specs.declared.header.Header.the-variants.{Crew, Malformed, Beyond}
+use Rattle.text_crew.specs.Reader.{Answer, Read, given, refusal, afterRows, afterHeader, rowsTo, headerAt, readCrew, laid, bufferLength, longestText}
+use Rattle.text_crew.specs.Reader.Read.{rowsRead, badForm, badBit}
+use Rattle.text_crew.proofs.Laid.{length-laid}
+use Rattle.text_crew.proofs.Canonical.{Accepted, accepted, words-hold}
+use Rattle.stores.specs.Stores.{putAt}
 use Rattle.call_mine.specs.declared.MineAnswer.{MineAnswer}
 use Rattle.call_mine.specs.Answers.{mined}
 use Rattle.listing.specs.Listing.{Printable, settled, refusedText, rolesText, listed, listing}

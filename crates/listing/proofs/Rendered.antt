@@ -24,9 +24,9 @@ use Rattle.model.specs.Calls.{Edited, Told, edit, unfit, told, qualityOf}
 use Rattle.model.proofs.Record.{Limits, sound-iff, read-users, read-permissions, read-count, read-set, rows-back}
 use Rattle.model.proofs.Bounds.{weightsAllowed-iff}
 use Rattle.model.proofs.Claim.{claim, sound-unfit}
-use Rattle.building.proofs.Sources.{narrow}
-use Rattle.reading.specs.Reading.{weightsOf}
-use Rattle.lists.specs.Stores.{putAt}
+use Rattle.indexes.proofs.Sources.{narrow}
+use Rattle.quality.specs.Reading.{weightsOf}
+use Rattle.stores.specs.Stores.{putAt}
 use Rattle.call_eliminate.specs.declared.EliminateAnswer.{EliminateAnswer}
 use Rattle.call_review.specs.declared.ReviewAnswer.{ReviewAnswer}
 use Rattle.call_quality.specs.declared.QualityAnswer.{QualityAnswer}

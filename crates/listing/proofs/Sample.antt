@@ -8,8 +8,8 @@ use Rattle.text.specs.Digits.{digitByte, digitOf, digitAt}
 use Rattle.text.specs.Fixed.{holds}
 use Rattle.text.specs.Decimal.{decimalDigit, decimalAt, decimalOf, decimal}
 use Rattle.text.specs.Hexadecimal.{hexadecimalAt, hexadecimalValue, hexadecimal}
-use Rattle.crewtext.specs.Format.{digitsFor}
-use Rattle.crewtext.specs.Reader.{limited, headerEnd, headerRest, headerAt, rowRest, rowAt, withRow, nextRow, rowsTo, refusal, laid, afterRows, afterHeader, readCrew}
+use Rattle.text_crew.specs.Format.{digitsFor}
+use Rattle.text_crew.specs.Reader.{limited, headerEnd, headerRest, headerAt, rowRest, rowAt, withRow, nextRow, rowsTo, refusal, laid, afterRows, afterHeader, readCrew}
 use Rattle.listing.specs.Listing.{plainWeights, plainTolerance, settled, field, line, linesTo, headLine, refusedText, roleLine, rolesText, listed, listing}
 
 -- `crew,3,3`, `0,3`, `1,6`, `2,7`

@@ -19,8 +19,8 @@ use Rattle.model.specs.Machine.Call.{eliminate, review}
 use Rattle.text.specs.Fixed.{comma, lineEnd}
 use Rattle.text.specs.Decimal.{decimal}
 use Rattle.text.specs.Hexadecimal.{hexadecimal}
-use Rattle.crewtext.specs.Format.{digitsFor}
-use Rattle.crewtext.specs.Reader.{bufferLength, readCrew}
+use Rattle.text_crew.specs.Format.{digitsFor}
+use Rattle.text_crew.specs.Reader.{bufferLength, readCrew}
 
 -- "weights 1, 1, 1, 1 and tolerance 1/1"
 unfoldable pub plainWeights : Weights

@@ -6,7 +6,7 @@ ghost use lib.ListN.{length};
 ghost use Rattle.model.specs.Lists.{rowsAt};
 ghost use Rattle.model.specs.State.{withinLimits, rowsWithin};
 ghost use Rattle.model.specs.Record.{built, stateOf, sound};
-ghost use Rattle.lists.specs.Stores.{putAt};
+ghost use Rattle.stores.specs.Stores.{putAt};
 ghost use Rattle.listing.specs.Listing.{listed, listing, settled};
 ghost use Rattle.listing.specs.Words.{mostBytes};
 

@@ -4,7 +4,7 @@ ghost use mathlib.Core.Bool.{So};
 ghost use Prim.Native.Nat.{_≤_};
 ghost use lib.ListN.{length};
 ghost use Rattle.model.specs.Record.{stateOf, sound};
-ghost use Rattle.lists.specs.Stores.{putAt};
+ghost use Rattle.stores.specs.Stores.{putAt};
 ghost use Rattle.listing.specs.Listing.{headLine, refusedText, rolesText};
 ghost use Rattle.listing.specs.Words.{mostBytes};
 use crate::lines::put_lines;

@@ -10,9 +10,9 @@ use lib.Seq.{getD-set-same, getD-set-other}
 use Rattle.sets.proofs.Truth.{either, equal-or}
 use Rattle.model.specs.Lists.{setAt, rowsAt}
 use Rattle.model.proofs.Lists.{length-rowsAt, setAt-same}
-use Rattle.lists.specs.Stores.{putAt}
+use Rattle.stores.specs.Stores.{putAt}
 use Rattle.tables.specs.Stores.{wordsOf}
-use Rattle.lists.proofs.Stores.{putAt-above}
+use Rattle.stores.proofs.Stores.{putAt-above}
 use Rattle.tables.proofs.Stores.{length-wordsOf, stored-back, stored-before, stored-after}
 use Rattle.mining.specs.Mining.{Inserts}
 use Rattle.mining.proofs.Rows.{row-at, rows-are, spliced-length, spliced-before, spliced-at, spliced-after}

@@ -12,7 +12,7 @@ use lib.Pow.{pow-pos}
 use borrow.Author.Tests.{eqb-true, eqb-false}
 use Rattle.sets.proofs.Words.{word-zero}
 use Rattle.sets.proofs.Truth.{either, equal-or}
-use Rattle.lists.specs.Stores.{putAt}
+use Rattle.stores.specs.Stores.{putAt}
 use Rattle.tables.specs.Stores.{wordsOf}
 use Rattle.tables.proofs.Stores.{stored-back, stored-before, stored-after}
 use Rattle.model.specs.Candidates.{place, Listed}

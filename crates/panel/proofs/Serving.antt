@@ -27,8 +27,8 @@ use Rattle.model.proofs.Lists.{length-rowsAt}
 use Rattle.model.proofs.Record.{state-back, withinLimits-iff, rowsWithin-iff}
 use Rattle.model.proofs.Steps.{Fit, fresh-fit}
 use Rattle.model.proofs.Claim.{fit-sound, claim, after-sound, after-state, edit-given}
-use Rattle.reading.specs.Reading.{weightsOf}
-use Rattle.lists.specs.Stores.{putAt}
+use Rattle.quality.specs.Reading.{weightsOf}
+use Rattle.stores.specs.Stores.{putAt}
 use Rattle.panel.specs.declared.list.Outcome.{Outcome}
 use Rattle.panel.specs.declared.list.Served.the-variants.{Unreadable, Refused, Mined}
 use Rattle.call_mine.specs.declared.MineAnswer.{MineAnswer}

@@ -19,7 +19,7 @@ use Rattle.model.specs.Machine.{Call, Answer, step, stateAfter, answersTo}
 use Rattle.model.specs.Machine.Call.{strike, restore, eliminate, review}
 use Rattle.model.specs.Calls.{miningRefusal}
 use Rattle.model.specs.Claim.{wordsAfter}
-use Rattle.reading.specs.Reading.{weightsOf}
+use Rattle.quality.specs.Reading.{weightsOf}
 use Rattle.call_eliminate.specs.Answers.{toleranceOf}
 use Rattle.panel.specs.declared.list.Served.{Served}
 use Rattle.panel.specs.declared.list.Served.the-variants.{Unreadable, Refused, Mined}

@@ -2,8 +2,8 @@
 ghost use mathlib.Core.Path.{_≡_};
 ghost use Rattle.model.specs.Calls.{mine, edit, qualityOf, mayOf};
 ghost use Rattle.model.specs.Machine.Call.{strike, restore, eliminate, review};
-ghost use Rattle.reading.specs.Reading.{weightsOf};
-ghost use Rattle.crewtext.specs.Reader.{given, readCrew};
+ghost use Rattle.quality.specs.Reading.{weightsOf};
+ghost use Rattle.text_crew.specs.Reader.{given, readCrew};
 ghost use Rattle.call_mine.specs.Answers.{mined};
 ghost use Rattle.call_strike.specs.Answers.{struck};
 ghost use Rattle.call_restore.specs.Answers.{restored};
@@ -18,7 +18,7 @@ use call_quality::QualityAnswer;
 use call_restore::RestoreAnswer;
 use call_review::ReviewAnswer;
 use call_strike::StrikeAnswer;
-use crewtext::CrewRead;
+use text_crew::CrewRead;
 
 #[no_mangle]
 pub extern "C" fn panel_mine(n: u64, m: u64, crew: &[u64], rec: &mut [u64]) -> MineAnswer
@@ -81,5 +81,5 @@ pub extern "C" fn panel_may(rec: &[u64], u: u64, p: u64) -> MayAnswer
 pub extern "C" fn panel_read_crew(text: &[u8], rows: &mut [u64]) -> CrewRead
     ensures { λ r. ⌜ given r (now (rows .exit)) ≡ readCrew (now (text .entry)) (now (rows .entry)) ⌝ }
 {
-    crewtext::read_crew(text, rows)
+    text_crew::read_crew(text, rows)
 }

@@ -15,7 +15,7 @@ use Rattle.model.specs.Hierarchy.{candidateCount, directPermissions, directMemb
 use Rattle.model.specs.Record.{recordLength, crewStart, setsStart, permissionsStart, membersStart, juniorsStart, wordAt}
 use Rattle.model.specs.State.{State, rolesOf}
 use Rattle.model.proofs.Record.{word-head, word-crew, word-set, word-permissions, word-members, word-juniors}
-use Rattle.building.specs.Tables.{Built}
+use Rattle.indexes.specs.Tables.{Built}
 use Rattle.records.specs.Records.{Padded}
 use Rattle.records.proofs.Writing.{header-is, words-of}
 

@@ -24,8 +24,8 @@ use Rattle.model.proofs.Reading.{covered-iff, covers-iff}
 use Rattle.model.proofs.Shortcuts.{maximal-iff, rolesOfUser-iff, maximal-above}
 use Rattle.hierarchy.specs.Tables.{lessAll}
 use Rattle.hierarchy.proofs.Sieving.{lessAll-iff}
-use Rattle.building.specs.Tables.{Source, Indexed}
-use Rattle.building.proofs.Sources.{numbered, source-set, source-count}
+use Rattle.indexes.specs.Tables.{Source, Indexed}
+use Rattle.indexes.proofs.Sources.{numbered, source-set, source-count}
 use Rattle.records.specs.Records.{userRoles, userCovered}
 
 -- ---- rows

@@ -24,12 +24,12 @@ use Rattle.model.specs.Record.{recordLength, wordAt, stateOf, stateSound, sound
 use Rattle.model.specs.State.{State, rolesOf, fresh, withinLimits, rowsWithin}
 use Rattle.model.proofs.Lists.{length-rowsAt, getD-rowsAt}
 use Rattle.model.proofs.Record.{Limits, withinLimits-iff, rowsWithin-iff, stateSound-iff, sound-iff}
-use Rattle.lists.specs.Stores.{putAt}
+use Rattle.stores.specs.Stores.{putAt}
 use Rattle.tables.specs.Tables.{Holds}
-use Rattle.lists.proofs.Stores.{putAt-in, putAt-above}
+use Rattle.stores.proofs.Stores.{putAt-in, putAt-above}
 use Rattle.mining.specs.Mining.{Written}
-use Rattle.building.specs.Tables.{Zeros}
-use Rattle.building.proofs.Sources.{source-count, source-set}
+use Rattle.indexes.specs.Tables.{Zeros}
+use Rattle.indexes.proofs.Sources.{source-count, source-set}
 use Rattle.records.specs.Records.{Padded, Tabled}
 use Rattle.records.proofs.Writing.{word-of}
 

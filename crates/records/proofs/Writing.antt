@@ -14,10 +14,10 @@ use Rattle.model.specs.Record.{recordLength, crewStart, setsStart, permissionsS
 use Rattle.model.specs.State.{State, rolesOf}
 use Rattle.model.proofs.Lists.{length-elems, getD-elems, tabulate-is}
 use Rattle.model.proofs.Record.{by-region, word-head, word-crew, word-set, word-permissions, word-members, word-juniors}
-use Rattle.lists.specs.Stores.{putAt}
+use Rattle.stores.specs.Stores.{putAt}
 use Rattle.tables.specs.Tables.{Holds}
-use Rattle.lists.proofs.Stores.{length-putAt, putAt-below, putAt-in}
-use Rattle.building.specs.Tables.{Built}
+use Rattle.stores.proofs.Stores.{length-putAt, putAt-below, putAt-in}
+use Rattle.indexes.specs.Tables.{Built}
 use Rattle.records.specs.Records.{Padded}
 
 -- word j of the set that stands at a place

@@ -13,7 +13,7 @@ use Rattle.model.specs.Coverage.{grant, covered}
 use Rattle.model.specs.Indexes.{rolesOfUser}
 use Rattle.model.specs.State.{State, rolesOf}
 use Rattle.model.proofs.Record.{Limits}
-use Rattle.building.specs.Tables.{Source}
+use Rattle.indexes.specs.Tables.{Source}
 
 -- a state's crew rows and candidates, word by word, each with zeros after them
 pub record Padded (st : State) (n : ℕ) (crew : List ℕ) (c : ℕ) (table : List ℕ) : Type 0 where

@@ -6,7 +6,7 @@ ghost use Rattle.sets.specs.Held.{set128, set256};
 ghost use Rattle.model.specs.Lists.{rowsAt};
 ghost use Rattle.model.specs.Coverage.{allCovered};
 ghost use Rattle.model.specs.State.{State, rolesOf, rowsWithin};
-ghost use Rattle.building.specs.Tables.{Source, Indexed};
+ghost use Rattle.indexes.specs.Tables.{Source, Indexed};
 ghost use Rattle.records.specs.Records.{userRoles, userCovered};
 use hierarchy::less256;
 use hierarchy::maximal_of;

@@ -8,12 +8,12 @@ ghost use Rattle.model.specs.Lists.{rowsAt};
 ghost use Rattle.model.specs.Record.{recordLength, built};
 ghost use Rattle.model.specs.State.{State, fresh};
 ghost use Rattle.model.proofs.Growing.{Growing};
-ghost use Rattle.building.specs.Tables.{Indexed};
+ghost use Rattle.indexes.specs.Tables.{Indexed};
 ghost use Rattle.records.specs.Records.{Tabled};
 use crate::check::pad;
 use crate::write::write_record;
-use building::fill_indexes;
-use building::fill_rows;
+use indexes::fill_indexes;
+use indexes::fill_rows;
 use sets::Set128;
 
 // Writes the record built afresh from the state whose tables these are.

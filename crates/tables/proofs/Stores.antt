@@ -9,8 +9,8 @@ use lib.ListN.{length, getD, set}
 use Rattle.sets.specs.Words.{value, word}
 use Rattle.model.specs.Lists.{tabulate, elems, setAt}
 use Rattle.model.proofs.Lists.{length-tabulate, getD-tabulate, setAt-words, setAt-same}
-use Rattle.lists.specs.Stores.{putAt}
-use Rattle.lists.proofs.Stores.{putAt-below, putAt-above, putAt-in}
+use Rattle.stores.specs.Stores.{putAt}
+use Rattle.stores.proofs.Stores.{putAt-below, putAt-above, putAt-in}
 use Rattle.tables.specs.Stores.{wordsOf}
 
 pub length-wordsOf : (w s : ℕ) → length (wordsOf w s) ≡ w

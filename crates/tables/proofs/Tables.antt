@@ -13,10 +13,10 @@ use Rattle.sets.specs.Sets.{has, _∖_, single}
 use Rattle.sets.proofs.Truth.{below-suc, either, equal-or}
 use Rattle.sets.proofs.Order.{∖-iff, single-iff}
 use Rattle.model.specs.Lists.{setAt}
-use Rattle.lists.specs.Stores.{putAt}
+use Rattle.stores.specs.Stores.{putAt}
 use Rattle.tables.specs.Stores.{wordsOf}
 use Rattle.tables.specs.Tables.{Filled}
-use Rattle.lists.proofs.Stores.{putAt-above}
+use Rattle.stores.proofs.Stores.{putAt-above}
 use Rattle.tables.proofs.Stores.{length-wordsOf, stored-back, stored-before, stored-after}
 
 pub filled-none : (w : ℕ) (f : ℕ → ℕ) (ws : List ℕ) → Filled w 0 f ws ws

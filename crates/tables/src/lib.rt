@@ -9,7 +9,7 @@ ghost use lib.ListN.{length, getD};
 ghost use Rattle.sets.specs.Held.{set128, set256};
 ghost use Rattle.sets.specs.Truth.{all};
 ghost use Rattle.model.specs.Lists.{setAt};
-ghost use Rattle.lists.specs.Stores.{putAt};
+ghost use Rattle.stores.specs.Stores.{putAt};
 ghost use Rattle.tables.specs.Stores.{wordsOf};
 pub use layout::CREW;
 pub use layout::JUNIORS;

@@ -15,9 +15,9 @@ use Rattle.sets.proofs.Truth.{if-true, if-false, if-passes, if-stops, either}
 use Rattle.text.specs.declared.decimal.Decimal.the-variants.{Number, Nothing}
 use Rattle.text.specs.Digits.{digitAt, digitByte}
 use Rattle.text.specs.Decimal.{decimalDigit, decimalAt, decimalOf, decimal}
-use Rattle.lists.specs.Stores.{putAt}
+use Rattle.stores.specs.Stores.{putAt}
 use Rattle.text.proofs.Digits.{digit-inside}
-use Rattle.lists.proofs.Stores.{putAt-more}
+use Rattle.stores.proofs.Stores.{putAt-more}
 
 decimal-yes : (text : List ℕ) (at : ℕ) → digitAt text at < 10 → decimalDigit text at ≡ true
 unfolding decimalDigit

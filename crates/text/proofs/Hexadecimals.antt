@@ -18,7 +18,7 @@ use Rattle.sets.proofs.Words.{value-nil, value-cons, value-words, word-quotient
 use Rattle.sets.proofs.Truth.{not-So, and-iff, all-of, all-is, all-through, ltb-iff, leb-iff, either}
 use Rattle.text.specs.Digits.{digitAt, digitByte}
 use Rattle.text.proofs.Bytes.{field-there, field-missing}
-use Rattle.lists.specs.Stores.{putAt}
+use Rattle.stores.specs.Stores.{putAt}
 use Rattle.text.specs.declared.field.Field.{Field}
 use Rattle.text.specs.declared.field.Field.the-variants.{Ends, Missing}
 use Rattle.text.specs.Hexadecimal.{hexadecimalAt, hexadecimalField, hexadecimalValue, hexadecimal}

@@ -3,7 +3,7 @@ ghost use mathlib.Core.Path.{_≡_};
 ghost use Prim.Native.Nat.{_+_, _≤_};
 ghost use lib.ListN.{length};
 ghost use Rattle.text.specs.Fixed.{holds, fixedAt, lineEndAt};
-ghost use Rattle.lists.specs.Stores.{putAt};
+ghost use Rattle.stores.specs.Stores.{putAt};
 use crate::field::Field;
 
 // Whether the text holds these bytes from place `at` on.

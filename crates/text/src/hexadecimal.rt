@@ -5,7 +5,7 @@ ghost use Prim.Native.Nat.{_+_, _-_, _≤_};
 ghost use lib.ListN.{length};
 ghost use Rattle.sets.specs.Held.{set128, set256};
 ghost use Rattle.text.specs.Hexadecimal.{hexadecimal, hexadecimalAt, hexadecimalField, hexadecimalValue};
-ghost use Rattle.lists.specs.Stores.{putAt};
+ghost use Rattle.stores.specs.Stores.{putAt};
 use crate::digit::digit_at;
 use crate::digit::digit_byte;
 use crate::field::Field;

@@ -3,7 +3,7 @@
 use borrow.Author.Needs.{needs}
 use mathlib.Core.Path.{refl, sym, _∙_}
 use borrow.Author.Tests.{not-true, not-false}
-use Rattle.trials.proofs.Runs.{weights-in}
+use Rattle.edit_trials.proofs.Runs.{weights-in}
 use Rattle.calls.proofs.Edits.{roles-few, edit-1, edit-5, sound-ready, sound-exact}
 use Rattle.call_eliminate.proofs.Eliminating.{tolerance-in, eliminate-9-weights, eliminate-9-tolerance, eliminate-0, eliminate-told, eliminate-given}
 use Rattle.call_eliminate.proofs.panel_eliminate.Statement.{statement}

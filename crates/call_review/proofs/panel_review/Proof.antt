@@ -4,7 +4,7 @@
 use borrow.Author.Needs.{needs}
 use mathlib.Core.Path.{refl, sym, _∙_}
 use borrow.Author.Tests.{not-true, not-false}
-use Rattle.trials.proofs.Runs.{weights-in}
+use Rattle.edit_trials.proofs.Runs.{weights-in}
 use Rattle.calls.proofs.Edits.{roles-few, edit-1, edit-5, sound-ready, sound-exact}
 use Rattle.call_review.proofs.Reviewing.{review-9, review-0, review-told, review-given}
 use Rattle.call_review.proofs.panel_review.Statement.{statement}

@@ -5,8 +5,8 @@ use mathlib.Core.Path.{_≡_, refl}
 use native.Mathlib.Omega.{arith}
 use Prim.Native.Nat.{_-_, _≤_}
 use lib.ListN.{length, take, length-set}
-use Rattle.lists.specs.Stores.{putAt}
-use Rattle.lists.proofs.Stores.{putAt-take, putAt-taken}
+use Rattle.stores.specs.Stores.{putAt}
+use Rattle.stores.proofs.Stores.{putAt-take, putAt-taken}
 use Rattle.tables.proofs.copy.Statement.{statement}
 use Rattle.tables.proofs.copy.Tie as tie
 

@@ -2,7 +2,7 @@
 -- Assumes nothing.
 -- The line of a role that stands, and nothing else.
 use borrow.Author.Needs.{needs}
-use Rattle.crewtext.proofs.Lines.{said-yes, said-no}
+use Rattle.text_crew.proofs.Lines.{said-yes, said-no}
 use mathlib.Core.Path.{_∙_, ap}
 use Rattle.sets.specs.Sets.{has}
 use Rattle.listing.proofs.Puts.{standing-put, absent-put}

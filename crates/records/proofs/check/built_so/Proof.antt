@@ -1,7 +1,7 @@
 -- The rows are filled, and the whole record is compared.
 -- Assumes nothing.
 use borrow.Author.Needs.{needs}
-use Rattle.building.proofs.Sources.{source-count}
+use Rattle.indexes.proofs.Sources.{source-count}
 use Rattle.records.proofs.Judging.{zeros, tabled-sets}
 use Rattle.records.proofs.check.built_so.Statement.{statement}
 use Rattle.records.proofs.check.built_so.Tie as tie

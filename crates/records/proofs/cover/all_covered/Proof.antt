@@ -11,9 +11,9 @@ use Rattle.sets.specs.Held.{set128}
 use Rattle.sets.specs.Truth.{all}
 use Rattle.sets.proofs.Truth.{So-not, all-of, all-more, all-fails, all-through}
 use Rattle.model.specs.State.{State}
-use Rattle.building.specs.Tables.{Source, Indexed}
+use Rattle.indexes.specs.Tables.{Source, Indexed}
 use Rattle.records.specs.Records.{userCovered}
-use Rattle.building.proofs.Sources.{source-row}
+use Rattle.indexes.proofs.Sources.{source-row}
 use Rattle.records.proofs.Covering.{own-roles-are, users-counted}
 use Rattle.records.proofs.cover.all_covered.Statement.{statement}
 use Rattle.records.proofs.cover.all_covered.Tie as tie

@@ -6,7 +6,7 @@ use Prim.Native.Nat.{ℕ}
 use lib.Dec.{eqb}
 use Rattle.model.specs.Indexes.{maximal}
 use Rattle.model.specs.State.{rolesOf}
-use Rattle.building.proofs.Sources.{numbered}
+use Rattle.indexes.proofs.Sources.{numbered}
 use Rattle.records.proofs.Covering.{user-roles-lt, user-test}
 use Rattle.records.proofs.cover.user_covered.Statement.{statement}
 use Rattle.records.proofs.cover.user_covered.Tie as tie

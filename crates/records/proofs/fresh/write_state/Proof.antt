@@ -1,7 +1,7 @@
 -- The rows are filled, and the record is written.
 -- Assumes nothing.
 use borrow.Author.Needs.{needs}
-use Rattle.building.proofs.Sources.{source-count}
+use Rattle.indexes.proofs.Sources.{source-count}
 use Rattle.records.proofs.Judging.{zeros, tabled-sets, padded-state}
 use Rattle.records.proofs.fresh.write_state.Statement.{statement}
 use Rattle.records.proofs.fresh.write_state.Tie as tie

@@ -1,7 +1,7 @@
 -- The list so far is the one lent with the first i bytes put in.
 -- Assumes nothing.
-use Rattle.lists.proofs.Stores.{putAt-take, putAt-taken}
-use Rattle.lists.specs.Stores.{putAt}
+use Rattle.stores.proofs.Stores.{putAt-take, putAt-taken}
+use Rattle.stores.specs.Stores.{putAt}
 use Prim.Native.Nat.{_-_, _≤_}
 use lib.ListN.{length, take, length-set}
 use mathlib.Core.Path.{_≡_, refl}

@@ -6,7 +6,7 @@ use Prim.Native.Nat.{_+_, _-_, _≤_}
 use Rattle.sets.specs.Held.{set256}
 use Rattle.text.specs.Digits.{digitByte}
 use Rattle.text.specs.Hexadecimal.{hexadecimal}
-use Rattle.lists.specs.Stores.{putAt}
+use Rattle.stores.specs.Stores.{putAt}
 use borrow.Author.Needs.{needs}
 use lib.ListN.{length, length-set}
 use mathlib.Core.Path.{_≡_, refl, _∙_, ap}

@@ -1,0 +1,46 @@
+// The roles that an elimination begins with.
+ghost use mathlib.Core.Path.{_≡_};
+ghost use mathlib.Core.List.{List};
+ghost use Prim.Native.Nat.{ℕ, _<_};
+ghost use lib.ListN.{length};
+ghost use Rattle.sets.specs.Held.{set128};
+ghost use Rattle.sets.specs.Sets.{_∪_, single};
+ghost use Rattle.sets.specs.Truth.{if_then_else_};
+ghost use Rattle.model.specs.Coverage.{strikables};
+ghost use Rattle.model.specs.Indexes.{rolesOfPermission};
+ghost use Rattle.model.specs.Record.{recordLength, built};
+ghost use Rattle.model.specs.State.{State, rolesOf};
+ghost use Rattle.model.proofs.Record.{Limits};
+ghost use Rattle.tables.specs.Tables.{Holds};
+ghost use Rattle.indexes.specs.Tables.{Indexed};
+use edit_rows::removable;
+use hierarchy::lowest_item;
+use sets::Set128;
+use tables::STANDING;
+use tables::load128;
+
+// The set with k in it where `strikable` says so.
+fn with_strikable(found: Set128, k: usize, strikable: bool) -> Set128
+    requires { ⌜ k < 128 ⌝ }
+    ensures { λ r. ⌜ set128 r ≡ (if strikable then set128 found ∪ single k else set128 found) ⌝ }
+{
+    if strikable {
+        return found.insert(k);
+    }
+    found
+}
+
+// The strikable roles of a record. Only a standing role can be strikable, so the others are not asked about.
+pub fn strikable_roles(rec: &[u64], roles: &[u64], holders: &[u64]) -> Set128
+    requires { ⌜ (length (now rec) ≡ recordLength) × (length (now roles) ≡ 256) × (length (now holders) ≡ 512) ⌝ }
+    ensures { λ r. ⌜ ((st : State) (low users : List ℕ) → Limits st → now (rec .entry) ≡ built st → Indexed st low (now (roles .entry)) users → Holds 2 (st .permissions) (rolesOfPermission (rolesOf st)) (now (holders .entry)) → set128 r ≡ strikables (rolesOf st) (st .standing)) ⌝ }
+{
+    let mut found = Set128::empty();
+    let mut rest = load128(rec, STANDING);
+    while !rest.is_empty() {
+        let k = lowest_item(rest);
+        found = with_strikable(found, k, removable(rec, roles, holders, k));
+        rest = rest.remove(k);
+    }
+    found
+}

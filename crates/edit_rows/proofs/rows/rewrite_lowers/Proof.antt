@@ -1,0 +1,72 @@
+-- The roles of `rest` still have their old members.
+-- Assumes nothing.
+use borrow.Author.Needs.{needs}
+use mathlib.Core.Path.{_≡_}
+use Prim.Native.Nat.{ℕ}
+use native.Mathlib.Omega.{arith}
+use lib.Count.{ones}
+use lib.ListN.{length}
+use Rattle.sets.specs.Held.{set128}
+use Rattle.model.specs.Hierarchy.{Rows, candidateCount, authorisedUsers}
+use Rattle.model.specs.Record.{recordLength}
+use Rattle.model.specs.State.{State, rolesOf}
+use Rattle.model.proofs.Record.{Limits}
+use Rattle.tables.specs.Tables.{Holds}
+use Rattle.hierarchy.proofs.Sieving.{fewer, not-empty, is-empty}
+use Rattle.edit_rows.specs.Partway.{Partway}
+use Rattle.edit_rows.proofs.rows.rewrite_lowers.Statement.{statement}
+use Rattle.edit_rows.proofs.rows.rewrite_lowers.Tie as tie
+
+abbrev Inv-loop : tie.InvT-loop
+Inv-loop rec₀ users c standing rest₀ rec rest =
+    (length rec ≡ recordLength)
+    × ((old : Rows) (st : State) (p : ℕ) → Limits st → candidateCount (rolesOf st) ≡ c → st .standing ≡ set128 standing → Holds 2 (candidateCount (rolesOf st)) (authorisedUsers (rolesOf st)) users → Partway old st 0 p (set128 rest₀) rec₀ → Partway old st 0 p (set128 rest) rec)
+
+abbrev μ-loop : tie.MeasureT-loop
+μ-loop rec₀ users c standing rest₀ rec rest = ones (set128 rest)
+
+loop-holds : tie.Need-loop-holds Inv-loop μ-loop
+loop-holds c = (search needs, λ old st p lim count same h q. q)
+
+is-empty-requires : tie.Need-is-empty-requires Inv-loop μ-loop
+is-empty-requires c κs = search needs
+
+lowest-item-requires : tie.Need-lowest-item-requires Inv-loop μ-loop
+lowest-item-requires c κs = not-empty _ _ (c .before .is-empty .ensures) (c .if1 .taken)
+
+rewrite-lower-requires : tie.Need-rewrite-lower-requires Inv-loop μ-loop
+rewrite-lower-requires c κs = (search needs, search needs, search needs, c .before .lowest-item .ensures .small)
+
+remove-requires : tie.Need-remove-requires Inv-loop μ-loop
+remove-requires c κs = search needs
+
+loop-less : tie.Need-loop-less Inv-loop μ-loop
+loop-less c = rw (c .remove .ensures) (fewer _ _ (c .before .before .before .before .before .lowest-item .ensures .there))
+
+loop-again : tie.Need-loop-again Inv-loop μ-loop
+loop-again c =
+    (omega arith, λ old st p lim count same h q. rw (c .remove .ensures) (c .before .before .before .rewrite-lower .ensures old st p _ lim count same h (c .before .before .before .before .before .before .before .before .loop .inv .1 old st p lim count same h q)))
+
+same-length : tie.Need-same-length Inv-loop μ-loop
+same-length c = omega arith
+
+returns : tie.Need-returns Inv-loop μ-loop
+returns c =
+    let e : set128 (c .before .before .loop .rest) ≡ 0 = is-empty _ _ (c .before .is-empty .ensures) (c .if1 .left) in
+    λ old st p lim count same h q. rw e at (c .before .before .loop .inv .1 old st p lim count same h q)
+
+pub rewrite-lowers-spec : {M : Type 1} → statement M
+rewrite-lowers-spec =
+    tie.close
+    (tie.spec
+    Inv-loop
+    μ-loop
+    loop-holds
+    is-empty-requires
+    lowest-item-requires
+    rewrite-lower-requires
+    remove-requires
+    loop-less
+    loop-again
+    same-length
+    returns)

@@ -1,0 +1,48 @@
+// Which roles lie below a role that is nobody's row. It is the intersection of the rows that contain it, so they are those that the users of these
+// rows share.
+ghost use mathlib.Core.Path.{_≡_};
+ghost use Prim.Native.Nat.{_≤_};
+ghost use lib.ListN.{length};
+ghost use Rattle.sets.specs.Held.{set128};
+ghost use Rattle.model.specs.Hierarchy.{candidateCount, authorisedUsers};
+ghost use Rattle.model.specs.Indexes.{lower, rolesOfUser};
+ghost use Rattle.model.specs.State.{State, rolesOf};
+ghost use Rattle.model.proofs.Record.{Limits};
+ghost use Rattle.tables.specs.Tables.{Holds};
+ghost use Rattle.indexes.specs.Tables.{Owned, sharedBy};
+use crate::index::Own;
+use hierarchy::lowest_item;
+use sets::Set128;
+use tables::load128;
+use tables::store128;
+
+// The roles that all of these users have.
+fn shared(roles: &[u64], users: Set128) -> Set128
+    requires { ⌜ length (now roles) ≡ 256 ⌝ }
+    ensures { λ r. ⌜ set128 r ≡ sharedBy (now (roles .entry)) (set128 users) ⌝ }
+{
+    let mut left = Set128::below(128);
+    let mut rest = users;
+    while !rest.is_empty() {
+        let u = lowest_item(rest);
+        left = left.intersection(load128(roles, 2 * u));
+        rest = rest.remove(u);
+    }
+    left
+}
+
+// The entries of the roles that are nobody's row. One user for each row is asked.
+pub fn fill_shared(roles: &[u64], users: &[u64], own: Own, c: usize, low: &mut [u64])
+    requires { ⌜ (length (now roles) ≡ 256) × (length (now users) ≡ 256) × (length (now low) ≡ 256) × (c ≤ 128) ⌝ }
+    ensures { λ r. ⌜ ((st : State) → Limits st → candidateCount (rolesOf st) ≡ c → Holds 2 (st .users) (rolesOfUser (rolesOf st)) (now (roles .entry)) → Holds 2 c (authorisedUsers (rolesOf st)) (now (users .entry)) → Owned st (st .users) (now (low .entry)) (set128 (own .roles)) (set128 (own .users)) → Holds 2 c (lower (rolesOf st)) (now (low .exit))) ⌝ }
+{
+    let known = own.roles;
+    let some = own.users;
+    let mut rest = Set128::below(c).difference(known);
+    while !rest.is_empty() {
+        let k = lowest_item(rest);
+        let asked = load128(users, 2 * k).intersection(some);
+        store128(low, 2 * k, shared(roles, asked).remove(k));
+        rest = rest.remove(k);
+    }
+}

@@ -1,0 +1,73 @@
+-- Values stored into a list.
+-- Assumes nothing.
+use mathlib.Core.Path.{_≡_, refl, sym, _∙_, ap}
+use mathlib.Core.List.{List, [], _∷_, _++_}
+use Prim.Native.Nat.{ℕ, zero, suc, _+_, _≤_, _<_}
+use native.Mathlib.Nat.{add-zero, zero-add, not-suc-le-zero, le-of-suc-le-suc}
+use native.Mathlib.Omega.{arith}
+use native.Mathlib.Numerals.{add-one}
+use lib.ListN.{length, getD, set, take, length-set}
+use lib.Seq.{ext-getD, take-suc, take-all, length-take-le, getD-set-same, getD-set-other}
+use Rattle.stores.specs.Stores.{putAt}
+
+pub length-putAt : (l : List ℕ) (at : ℕ) (vs : List ℕ) → length (putAt l at vs) ≡ length l
+unfolding putAt
+length-putAt l at [] = refl
+length-putAt l at (v ∷ vs) = length-putAt (set l at v) (suc at) vs ∙ length-set l at v
+
+-- one run after another
+pub putAt-append : (l : List ℕ) (at : ℕ) (xs ys : List ℕ) → putAt l at (xs ++ ys) ≡ putAt (putAt l at xs) (at + length xs) ys
+unfolding putAt
+putAt-append l at [] ys = rw (add-zero at) refl
+putAt-append l at (x ∷ xs) ys =
+    putAt-append (set l at x) (suc at) xs ys
+    ∙ ap (λ (k : ℕ). putAt (putAt (set l at x) (suc at) xs) k ys) (let e : suc at + length xs ≡ at + suc (length xs) = omega arith in e)
+
+-- one value more
+pub putAt-more : (l : List ℕ) (at : ℕ) (vs : List ℕ) (v : ℕ) → putAt l at (vs ++ (v ∷ [])) ≡ set (putAt l at vs) (at + length vs) v
+unfolding putAt
+putAt-more l at vs v = putAt-append l at vs (v ∷ [])
+
+pub putAt-take : (l src : List ℕ) (at i : ℕ) {l' : List ℕ} → i < length src → l' ≡ putAt l at (take i src)
+    → set l' (at + i) (getD src i 0) ≡ putAt l at (take (i + 1) src)
+putAt-take l src at i h e =
+    let n : length (take i src) ≡ i = length-take-le i src (omega arith) in
+    rw (e, add-one i, take-suc src i 0 h) (sym (putAt-more l at (take i src) (getD src i 0) ∙ ap (λ (k : ℕ). set (putAt l at (take i src)) (at + k) (getD src i 0)) n))
+
+pub putAt-taken : (l src : List ℕ) (at i : ℕ) {l' : List ℕ} → length src ≤ i → l' ≡ putAt l at (take i src) → l' ≡ putAt l at src
+putAt-taken l src at i h e = e ∙ ap (putAt l at) (take-all i src h)
+
+-- ---- what stands where afterwards
+
+pub putAt-below : (l : List ℕ) (at : ℕ) (vs : List ℕ) (i : ℕ) → i < at → getD (putAt l at vs) i 0 ≡ getD l i 0
+unfolding putAt
+putAt-below l at [] i h = refl
+putAt-below l at (v ∷ vs) i h =
+    putAt-below (set l at v) (suc at) vs i (omega arith) ∙ getD-set-other l at i v 0 (λ (e : i ≡ at). let z : ⊥ = omega arith in z)
+
+pub putAt-above : (l : List ℕ) (at : ℕ) (vs : List ℕ) (i : ℕ) → at + length vs ≤ i → getD (putAt l at vs) i 0 ≡ getD l i 0
+unfolding putAt
+putAt-above l at [] i h = refl
+putAt-above l at (v ∷ vs) i h =
+    let k : at + suc (length vs) ≤ i = h in
+    putAt-above (set l at v) (suc at) vs i (omega arith) ∙ getD-set-other l at i v 0 (λ (e : i ≡ at). let z : ⊥ = omega arith in z)
+
+pub putAt-in : (l : List ℕ) (at : ℕ) (vs : List ℕ) (j : ℕ) → at + length vs ≤ length l → j < length vs → getD (putAt l at vs) (at + j) 0 ≡ getD vs j 0
+unfolding putAt
+putAt-in l at [] j h k = absurd (not-suc-le-zero k)
+putAt-in l at (v ∷ vs) zero h k =
+    let b : at + suc (length vs) ≤ length l = h in
+    rw (add-zero at) (putAt-below (set l at v) (suc at) vs at (omega arith) ∙ getD-set-same l at v 0 (omega arith))
+putAt-in l at (v ∷ vs) (suc j) h k =
+    let b : at + suc (length vs) ≤ length l = h in
+    let n : length (set l at v) ≡ length l = length-set l at v in
+    let e : at + suc j ≡ suc at + j = omega arith in
+    rw e (putAt-in (set l at v) (suc at) vs j (omega arith) (le-of-suc-le-suc k))
+
+-- a whole list stored over another
+pub putAt-whole : (l vs : List ℕ) → length l ≡ length vs → putAt l 0 vs ≡ vs
+putAt-whole l vs e =
+    ext-getD 0 (putAt l 0 vs) vs (length-putAt l 0 vs ∙ e)
+    (λ i h.
+    let b : i < length vs = rw (length-putAt l 0 vs ∙ e) at h in
+    ap (λ (x : ℕ). getD (putAt l 0 vs) x 0) (sym (zero-add i)) ∙ putAt-in l 0 vs i (omega arith) b)

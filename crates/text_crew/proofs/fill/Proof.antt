@@ -1,0 +1,77 @@
+-- Each way through `afterRows`.
+-- Assumes nothing.
+use Rattle.text_crew.proofs.Answers.{refused-is, after-more, after-all, after-form, after-bit}
+use Rattle.text_crew.proofs.Laid.{blank}
+use Rattle.text_crew.specs.Reader.{given}
+use mathlib.Core.Path.{sym, _∙_}
+use borrow.Author.Needs.{needs}
+use native.Mathlib.Omega.{arith}
+use Rattle.stores.proofs.Stores.{putAt-whole}
+use Rattle.text_crew.proofs.fill.Statement.{statement}
+use Rattle.text_crew.proofs.fill.Tie as tie
+
+slice-aggregate-read-rows : tie.Need-slice-aggregate-read-rows
+slice-aggregate-read-rows c = search needs
+
+read-rows-requires : tie.Need-read-rows-requires
+read-rows-requires c κs = (omega arith, omega arith, blank)
+
+enum-known-end : tie.Need-enum-known-end
+enum-known-end c = search needs
+
+slice-aggregate-copy : tie.Need-slice-aggregate-copy
+slice-aggregate-copy c = search needs
+
+copy-requires : tie.Need-copy-requires
+copy-requires c κs = search needs
+
+same-length : tie.Need-same-length
+same-length c = search needs
+
+returns : tie.Need-returns
+unfolding given
+returns c = rw (c .before .before .copy .ensures ∙ putAt-whole _ _ (search needs)) (after-all _ _ _ _ _ _ _ (sym (c .before .before .before .before .before .before .before .end .given .1) ∙ c .before .before .before .before .before .before .before .before .before .before .read-rows .ensures .0) (c .before .before .before .before .before .before .before .before .before .before .read-rows .ensures .1) (c .before .before .before .before .before .if1 .taken))
+
+refused-requires : tie.Need-refused-requires
+refused-requires c κs = search needs
+
+enum-told : tie.Need-enum-told
+enum-told c = search needs
+
+refused-requires-2 : tie.Need-refused-requires-2
+refused-requires-2 c κs = search needs
+
+enum-told-2 : tie.Need-enum-told-2
+enum-told-2 c = search needs
+
+refused-requires-3 : tie.Need-refused-requires-3
+refused-requires-3 c κs = search needs
+
+returns-2 : tie.Need-returns-2
+returns-2 c = refused-is _ _ _ (c .refused .ensures) ∙ after-more _ _ _ _ _ _ (sym (c .before .before .before .end .given .1) ∙ c .before .before .before .before .before .before .read-rows .ensures .0) (c .before .if1 .left)
+
+returns-3 : tie.Need-returns-3
+returns-3 c = refused-is _ _ _ (c .refused2 .ensures) ∙ after-form _ _ _ _ _ (sym (c .before .enum-told .given .1) ∙ c .before .before .before .before .read-rows .ensures .0)
+
+returns-4 : tie.Need-returns-4
+returns-4 c = refused-is _ _ _ (c .refused3 .ensures) ∙ after-bit _ _ _ _ _ (sym (c .before .enum-told2 .given .1) ∙ c .before .before .before .before .read-rows .ensures .0)
+
+pub fill-spec : {M : Type 1} → statement M
+fill-spec =
+    tie.close
+    (tie.spec
+    slice-aggregate-read-rows
+    read-rows-requires
+    enum-known-end
+    slice-aggregate-copy
+    copy-requires
+    same-length
+    returns
+    refused-requires
+    enum-told
+    refused-requires-2
+    enum-told-2
+    refused-requires-3
+    returns-2
+    returns-3
+    returns-4)

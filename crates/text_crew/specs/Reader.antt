@@ -1,0 +1,140 @@
+-- What the reader answers. "a text's length is judged before its lines, which are read from the front, and the first fault counts (in each
+-- line its form, 10, before its limits: 2 for the header, 3 for a row; then more bytes, 10"
+-- Assumes nothing.
+use mathlib.Core.Path.{_≡_}
+use mathlib.Core.List.{List, [], _∷_, _++_}
+use Prim.Native.Nat.{ℕ, zero, suc, _+_, _^_}
+use lib.Dec.{eqb, leb, ltb}
+use lib.ListN.{length, getD}
+use Rattle.sets.specs.Truth.{_and_, isnt, if_then_else_}
+use Rattle.model.specs.Lists.{tabulate}
+use Rattle.model.specs.State.{withinLimits}
+use Rattle.model.specs.Record.{regionWord}
+use Rattle.text.specs.declared.decimal.Decimal.{Decimal}
+use Rattle.text.specs.declared.decimal.Decimal.the-variants.{Number, Nothing}
+use Rattle.text.specs.Fixed.{holds, comma, lineEnd}
+use Rattle.text.specs.Decimal.{decimalAt}
+use Rattle.text.specs.Hexadecimal.{hexadecimalAt, hexadecimalValue}
+use Rattle.text_crew.specs.Format.{crewWord, digitsFor}
+use Rattle.text_crew.specs.declared.CrewRead.{CrewRead}
+use Rattle.text_crew.specs.declared.header.Header.{Header}
+use Rattle.text_crew.specs.declared.header.Header.the-variants.{Crew, Malformed, Beyond}
+use Rattle.text_crew.specs.declared.row.Row.{Row}
+use Rattle.text_crew.specs.declared.row.Row.the-variants.{Digits, Broken}
+use Rattle.text_crew.specs.declared.rows.Rows.{Rows}
+use Rattle.text_crew.specs.declared.rows.Rows.the-variants.{End, BadForm, BadBit}
+
+-- "over 16,384 bytes", "a lent buffer of 512 words"
+abbrev pub longestText : ℕ
+longestText = 16384
+
+abbrev pub bufferLength : ℕ
+bufferLength = 512
+
+-- ---- the header
+
+-- n and m are in their limits
+unfoldable pub limited : ℕ → ℕ → ℕ → Header
+limited n m next = if withinLimits n m then Crew n m next else Beyond
+
+unfoldable pub headerEnd : List ℕ → ℕ → Decimal → Header
+headerEnd text n (Number m next) = if holds text next lineEnd then limited n m (next + 1) else Malformed
+headerEnd text n Nothing = Malformed
+
+unfoldable pub headerRest : List ℕ → Decimal → Header
+headerRest text (Number n next) = if holds text next comma then headerEnd text n (decimalAt text (next + 1)) else Malformed
+headerRest text Nothing = Malformed
+
+-- the form of the whole line, then its limits
+unfoldable pub headerAt : List ℕ → Header
+headerAt text = if holds text 0 crewWord then headerRest text (decimalAt text 5) else Malformed
+
+-- ---- a row
+
+-- after the number of the line: it is u, then a comma, d digits and the line's end
+unfoldable pub rowRest : List ℕ → ℕ → ℕ → Decimal → Row
+rowRest text d u (Number v next) =
+    if eqb v u and holds text next comma and hexadecimalAt d text (next + 1) and holds text (next + 1 + d) lineEnd then Digits (next + 1)
+    else Broken
+rowRest text d u Nothing = Broken
+
+-- where the digits of row u stand, if the line at place `at` has its form
+unfoldable pub rowAt : List ℕ → ℕ → ℕ → ℕ → Row
+rowAt text d u at = rowRest text d u (decimalAt text at)
+
+-- ---- the rows
+
+-- the rows read and the place after them, or the first fault
+pub data Read : Type 0 where
+  rowsRead : List ℕ → ℕ → Read
+  badForm : Read
+  badBit : Read
+
+-- one row more, by its form and then by its bits: none at m or above
+unfoldable pub withRow : List ℕ → ℕ → List ℕ → Row → Read
+withRow text m rows (Digits at) =
+    let s = hexadecimalValue (digitsFor m) text at in
+    if ltb s (2 ^ m) then rowsRead (rows ++ (s ∷ [])) (at + digitsFor m + 1) else badBit
+withRow text m rows Broken = badForm
+
+unfoldable pub nextRow : List ℕ → ℕ → ℕ → Read → Read
+nextRow text m u (rowsRead rows at) = withRow text m rows (rowAt text (digitsFor m) u at)
+nextRow text m u badForm = badForm
+nextRow text m u badBit = badBit
+
+-- the first n rows, from place `at` on
+unfoldable pub rowsTo : List ℕ → ℕ → ℕ → ℕ → Read
+rowsTo text m at zero = rowsRead [] at
+rowsTo text m at (suc u) = nextRow text m u (rowsTo text m at u)
+
+-- ---- the answer
+
+pub record Answer : Type 0 where
+  pub code : ℕ
+  pub n : ℕ
+  pub m : ℕ
+  pub words : List ℕ
+
+-- "Every refusal returns zeros beside its number and leaves all buffers as lent."
+unfoldable pub refusal : ℕ → List ℕ → Answer
+refusal k buffer = record { code = k; n = 0; m = 0; words = buffer }
+
+-- "the n rows, then zeros": word j of row u at 4 u + j
+unfoldable pub laid : List ℕ → List ℕ
+laid rows = tabulate bufferLength (regionWord 4 (λ u. getD rows u 0))
+
+-- after the rows, no more bytes
+unfoldable pub afterRows : List ℕ → List ℕ → ℕ → ℕ → Read → Answer
+afterRows text buffer n m (rowsRead rows at) =
+    if eqb at (length text) then record { code = 0; n = n; m = m; words = laid rows } else refusal 10 buffer
+afterRows text buffer n m badForm = refusal 10 buffer
+afterRows text buffer n m badBit = refusal 3 buffer
+
+unfoldable pub afterHeader : List ℕ → List ℕ → Header → Answer
+afterHeader text buffer (Crew n m at) = afterRows text buffer n m (rowsTo text m at n)
+afterHeader text buffer Malformed = refusal 10 buffer
+afterHeader text buffer Beyond = refusal 2 buffer
+
+-- the reader, on a text and a lent buffer
+unfoldable pub readCrew : List ℕ → List ℕ → Answer
+readCrew text buffer =
+    if isnt (eqb (length buffer) bufferLength) then refusal 3 buffer
+    else if isnt (leb (length text) longestText) then refusal 10 buffer
+    else afterHeader text buffer (headerAt text)
+
+-- ---- what the code gives
+
+unfoldable pub given : CrewRead → List ℕ → Answer
+given r buffer = record { code = r .code; n = r .n; m = r .m; words = buffer }
+
+-- the code's answer for the rows
+unfoldable pub rowsGiven : Read → Rows
+rowsGiven (rowsRead rows at) = End at
+rowsGiven badForm = BadForm
+rowsGiven badBit = BadBit
+
+-- where all rows are read, the words hold them
+unfoldable pub Filled : Read → List ℕ → Type 0
+Filled (rowsRead rows at) words = words ≡ laid rows
+Filled badForm words = Unit {0}
+Filled badBit words = Unit {0}
