@@ -13,9 +13,9 @@ use Rattle.model.specs.Hierarchy.{candidateCount}
 use Rattle.model.specs.Machine.{refusal, accepted}
 use Rattle.model.specs.Machine.Call.{restore}
 use Rattle.model.specs.State.{State, rolesOf, standingNow}
-use Rattle.model.specs.Record.{built, stateOf, sound}
+use Rattle.model.specs.Record.{built, stateOf, sound, Limits}
 use Rattle.model.specs.Calls.{Edited, edit}
-use Rattle.model.proofs.Record.{Limits, sound-built}
+use Rattle.model.proofs.Record.{sound-built}
 use Rattle.model.proofs.Steps.{restore-accepts}
 use Rattle.indexes.specs.Tables.{Indexed}
 use Rattle.calls.proofs.Edits.{refusedWith, edit-refused, edit-accepted, sound-limits, stands-told, unknown, number, known-on}

@@ -16,9 +16,9 @@ use Rattle.model.specs.Hierarchy.{candidateCount}
 use Rattle.model.specs.Quality.{counted}
 use Rattle.model.specs.Machine.{Call, Run, answer, refusal, accepted}
 use Rattle.model.specs.State.{rolesOf, standingNow}
-use Rattle.model.specs.Record.{recordLength, built, stateOf, rowsOf, sound}
+use Rattle.model.specs.Record.{recordLength, built, stateOf, rowsOf, sound, Limits}
 use Rattle.model.specs.Calls.{Edited, unfit, edit}
-use Rattle.model.proofs.Record.{Limits, sound-iff, sound-built}
+use Rattle.model.proofs.Record.{sound-iff, sound-built}
 use Rattle.model.proofs.Steps.{step-accepted, step-refused}
 use Rattle.model.proofs.Claim.{edit-given, edit-words}
 use Rattle.indexes.specs.Tables.{Indexed}

@@ -21,11 +21,10 @@ use Rattle.model.specs.Indexes.{rolesOfUser, rolesOfPermission}
 use Rattle.model.specs.Quality.{Weights, quality}
 use Rattle.model.specs.Machine as model
 use Rattle.model.specs.Machine.{Run, takeUp, takeUpAll, foremost, pass, passes, begin, eliminated}
-use Rattle.model.specs.Record.{setsStart, built, stateOf}
+use Rattle.model.specs.Record.{setsStart, built, stateOf, Limits}
 use Rattle.model.specs.State.{State, rolesOf}
 use Rattle.model.proofs.Reading.{strikables-iff, strikable-stands}
 use Rattle.model.proofs.Elimination.{pass-examined}
-use Rattle.model.proofs.Record.{Limits}
 use Rattle.indexes.specs.Tables.{Indexed}
 use Rattle.tables.specs.Tables.{Holds}
 use Rattle.edit_test.specs.Sparing.{HoldsFor}

@@ -18,9 +18,9 @@ use Rattle.model.specs.Indexes.{rolesOfPermission}
 use Rattle.model.specs.Quality.{Weights, quality}
 use Rattle.model.specs.Machine as model
 use Rattle.model.specs.Machine.{dropped, struck, kept, takeUp}
-use Rattle.model.specs.Record.{built, stateOf}
+use Rattle.model.specs.Record.{built, stateOf, Limits}
 use Rattle.model.specs.State.{State, rolesOf, standingNow}
-use Rattle.model.proofs.Record.{Limits, directPermissions-lt}
+use Rattle.model.proofs.Record.{directPermissions-lt}
 use Rattle.model.proofs.Bounds.{tolerance-iff}
 use Rattle.model.proofs.Steps.{standing-now}
 use Rattle.indexes.specs.Tables.{Indexed}

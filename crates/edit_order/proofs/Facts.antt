@@ -22,7 +22,7 @@ use Rattle.model.specs.Indexes.{lower, rolesOfUser, rolesOfPermission}
 use Rattle.model.specs.State.{State, rolesOf}
 use Rattle.model.proofs.Intervals.{first-holder, last-role}
 use Rattle.model.proofs.Reading.{user-iff, covers-iff}
-use Rattle.model.proofs.Record.{Limits}
+use Rattle.model.specs.Record.{Limits}
 use Rattle.model.proofs.Shortcuts.{lower-iff, rolesOfUser-iff, rolesOfPermission-iff}
 use Rattle.tables.specs.Tables.{Holds}
 use Rattle.hierarchy.specs.Tables.{Lowest, Highest}

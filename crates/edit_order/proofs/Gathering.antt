@@ -14,11 +14,10 @@ use Rattle.model.specs.Lists.{setAt}
 use Rattle.model.specs.Hierarchy.{directPermissions}
 use Rattle.model.specs.Coverage.{strikable, strikables}
 use Rattle.model.specs.Indexes.{rolesOfPermission}
-use Rattle.model.specs.Record.{built}
+use Rattle.model.specs.Record.{built, Limits}
 use Rattle.model.specs.State.{State, rolesOf}
 use Rattle.model.proofs.Reading.{permission-iff, strikable-stands, strikables-iff}
 use Rattle.model.proofs.Building.{stands-below}
-use Rattle.model.proofs.Record.{Limits}
 use Rattle.model.proofs.Steps.{limits-ordered}
 use Rattle.tables.specs.Tables.{Holds}
 use Rattle.indexes.specs.Tables.{Indexed}

@@ -11,7 +11,7 @@ ghost use Rattle.model.specs.Hierarchy.{candidateCount};
 ghost use Rattle.model.specs.Indexes.{rolesOfPermission};
 ghost use Rattle.model.specs.Lists.{setAt};
 ghost use Rattle.model.specs.State.{State, rolesOf};
-ghost use Rattle.model.proofs.Record.{Limits};
+ghost use Rattle.model.specs.Record.{Limits};
 ghost use Rattle.tables.specs.Tables.{Holds, Filled};
 ghost use Rattle.hierarchy.specs.Tables.{Lowest, Highest};
 ghost use Rattle.indexes.specs.Tables.{Indexed};

@@ -15,13 +15,13 @@ use Rattle.sets.proofs.Order.{collect-iff, ∪-iff, single-iff, single-lt, has-
 use Rattle.model.specs.Lists.{setAt}
 use Rattle.model.specs.Hierarchy.{Roles, candidateCount, immediatelySenior, immediateJuniors, directMembers}
 use Rattle.model.specs.Indexes.{lower}
-use Rattle.model.specs.Record.{membersStart, juniorsStart, built}
+use Rattle.model.specs.Record.{membersStart, juniorsStart, built, Limits}
 use Rattle.model.specs.State.{State, rolesOf, standingNow}
 use Rattle.model.specs.Altered.{Altered}
 use Rattle.model.proofs.Reading.{Ordered, immediate-iff, junior-iff}
 use Rattle.model.proofs.Building.{stands-below, senior-stands}
 use Rattle.model.proofs.Changes.{restored-ordered, juniors-same, permissions-same, members-same, members-kept}
-use Rattle.model.proofs.Record.{Limits, built-word, word-members, word-juniors, members-small, juniors-small, read-count, read-standing}
+use Rattle.model.proofs.Record.{built-word, word-members, word-juniors, members-small, juniors-small, read-count, read-standing}
 use Rattle.model.proofs.Steps.{limits-ordered, limits-now}
 use Rattle.model.proofs.Altered.{strike-altered, restore-altered}
 use Rattle.tables.specs.Tables.{Holds}

@@ -13,12 +13,12 @@ use Rattle.sets.proofs.Truth.{either}
 use Rattle.sets.proofs.Items.{digit}
 use Rattle.model.specs.Hierarchy.{Roles, Rows, candidateCount, permissionSet, authorisedUsers, immediateJuniors, directPermissions, directMembers, building}
 use Rattle.model.specs.Indexes.{lower}
-use Rattle.model.specs.Record.{recordLength, crewStart, setsStart, permissionsStart, membersStart, juniorsStart, headerWord, wordAt, built}
+use Rattle.model.specs.Record.{recordLength, crewStart, setsStart, permissionsStart, membersStart, juniorsStart, headerWord, wordAt, built, Limits}
 use Rattle.model.specs.State.{State, rolesOf, standingNow}
 use Rattle.model.proofs.Lists.{tabulate-is}
 use Rattle.model.proofs.Steps.{limits-now}
 use Rattle.model.proofs.Altered.{same-head}
-use Rattle.model.proofs.Record.{Limits, by-region, word-head, word-crew, word-set, word-permissions, word-members, word-juniors, built-length, built-word, juniors-small}
+use Rattle.model.proofs.Record.{by-region, word-head, word-crew, word-set, word-permissions, word-members, word-juniors, built-length, built-word, juniors-small}
 use Rattle.stores.specs.Stores.{putAt}
 use Rattle.tables.specs.Stores.{wordsOf}
 use Rattle.tables.specs.Tables.{Holds}

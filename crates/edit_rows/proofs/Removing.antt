@@ -17,10 +17,10 @@ use Rattle.model.specs.Lists.{setAt}
 use Rattle.model.specs.Hierarchy.{Roles, candidateCount, permissionSet, directMembers, directPermissions}
 use Rattle.model.specs.Coverage.{strikable}
 use Rattle.model.specs.Indexes.{rolesOfPermission}
-use Rattle.model.specs.Record.{crewStart, setsStart, permissionsStart, membersStart, built, recordLength}
+use Rattle.model.specs.Record.{crewStart, setsStart, permissionsStart, membersStart, built, recordLength, Limits}
 use Rattle.model.specs.State.{State, rolesOf}
 use Rattle.model.proofs.Building.{stands-below}
-use Rattle.model.proofs.Record.{Limits, built-word, word-crew, word-set, word-permissions, row-below, permissions-small, directPermissions-lt, directMembers-lt}
+use Rattle.model.proofs.Record.{built-word, word-crew, word-set, word-permissions, row-below, permissions-small, directPermissions-lt, directMembers-lt}
 use Rattle.model.proofs.Steps.{limits-ordered}
 use Rattle.tables.specs.Tables.{Holds}
 use Rattle.indexes.specs.Tables.{Indexed}

@@ -12,7 +12,7 @@ use Rattle.sets.proofs.Counts.{ones-without}
 use Rattle.model.specs.Quality as model
 use Rattle.model.specs.State.{State, rolesOf}
 use Rattle.model.proofs.Bounds.{Small, counts-small}
-use Rattle.model.proofs.Record.{Limits}
+use Rattle.model.specs.Record.{Limits}
 use Rattle.model.proofs.Steps.{limits-ordered}
 use Rattle.quality.specs.declared.quality.Counts.{Counts}
 use Rattle.quality.specs.Reading.{countsOf, Few}

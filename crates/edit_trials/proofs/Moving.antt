@@ -15,10 +15,10 @@ use Rattle.model.specs.Lists.{setAt}
 use Rattle.model.specs.Hierarchy.{Roles, candidateCount, permissionSet, authorisedUsers, immediateJuniors, directPermissions, directMembers}
 use Rattle.model.specs.Indexes.{lower}
 use Rattle.model.specs.Quality as model
-use Rattle.model.specs.Record.{setsStart, permissionsStart, membersStart, juniorsStart, built, stateOf}
+use Rattle.model.specs.Record.{setsStart, permissionsStart, membersStart, juniorsStart, built, stateOf, Limits}
 use Rattle.model.specs.State.{State, rolesOf, standingNow}
 use Rattle.model.proofs.Changes.{restored-ordered}
-use Rattle.model.proofs.Record.{Limits, state-back, immediateJuniors-lt}
+use Rattle.model.proofs.Record.{state-back, immediateJuniors-lt}
 use Rattle.model.proofs.Steps.{limits-ordered, limits-now}
 use Rattle.tables.specs.Tables.{Holds}
 use Rattle.hierarchy.specs.Tables.{Numbered, Narrow}

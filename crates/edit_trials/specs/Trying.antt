@@ -11,10 +11,9 @@ use Rattle.sets.specs.Sets.{has, _∩_, _∪_, _∖_, single, collect}
 use Rattle.model.specs.Lists.{setAt}
 use Rattle.model.specs.Hierarchy.{Roles, candidateCount, immediateJuniors, directPermissions, directMembers}
 use Rattle.model.specs.Quality as model
-use Rattle.model.specs.Record.{setsStart, permissionsStart, membersStart, juniorsStart, built, stateOf}
+use Rattle.model.specs.Record.{setsStart, permissionsStart, membersStart, juniorsStart, built, stateOf, Limits}
 use Rattle.model.specs.State.{State, rolesOf, standingNow}
 use Rattle.model.specs.Machine.{Run}
-use Rattle.model.proofs.Record.{Limits}
 use Rattle.hierarchy.specs.Tables.{lessAll}
 use Rattle.indexes.specs.Tables.{Indexed}
 use Rattle.quality.specs.declared.quality.Counts.{Counts}

@@ -20,7 +20,7 @@ use Rattle.model.specs.Hierarchy.{candidateCount, permissionSet, authorisedUser
 use Rattle.model.specs.Indexes.{lower, rolesOfUser}
 use Rattle.model.specs.State.{State, rolesOf}
 use Rattle.model.proofs.Reading.{user-iff}
-use Rattle.model.proofs.Record.{Limits}
+use Rattle.model.specs.Record.{Limits}
 use Rattle.model.proofs.Shortcuts.{lower-iff, rolesOfUser-iff}
 use Rattle.model.proofs.Intervals.{shared-lower, someone}
 use Rattle.stores.specs.Stores.{putAt}

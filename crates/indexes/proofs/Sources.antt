@@ -26,7 +26,7 @@ use Rattle.model.proofs.Candidates.{candidates-growing, candidates-table, prope
 use Rattle.model.proofs.Lists.{length-rowsAt, getD-rowsAt, setAt-words}
 use Rattle.model.proofs.Reading.{user-iff}
 use Rattle.model.proofs.Building.{absent-juniors, absent-permissions, absent-members}
-use Rattle.model.proofs.Record.{Limits}
+use Rattle.model.specs.Record.{Limits}
 use Rattle.model.proofs.Shortcuts.{lower-iff, rolesOfUser-iff, user-own, user-none}
 use Rattle.tables.specs.Tables.{Holds, Filled}
 use Rattle.hierarchy.specs.Tables.{Numbered, Narrow}

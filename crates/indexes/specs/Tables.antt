@@ -13,7 +13,7 @@ use Rattle.model.specs.Candidates.{candidates}
 use Rattle.model.specs.Hierarchy.{authorisedUsers, immediateJuniors, directPermissions, directMembers, candidateCount, permissionSet}
 use Rattle.model.specs.Indexes.{lower, rolesOfUser}
 use Rattle.model.specs.State.{State, rolesOf}
-use Rattle.model.proofs.Record.{Limits}
+use Rattle.model.specs.Record.{Limits}
 use Rattle.tables.specs.Tables.{Holds}
 
 -- the state's crew rows are the n rows from place `at` on, and its candidates the c sets of the table

@@ -11,7 +11,7 @@ ghost use Rattle.model.specs.Lists.{rowsAt};
 ghost use Rattle.model.specs.Hierarchy.{permissionSet};
 ghost use Rattle.model.specs.Indexes.{rolesOfUser};
 ghost use Rattle.model.specs.State.{State, rolesOf};
-ghost use Rattle.model.proofs.Growing.{Growing};
+ghost use Rattle.model.specs.Candidates.{Growing};
 ghost use Rattle.tables.specs.Tables.{Filled};
 ghost use Rattle.indexes.specs.Tables.{Source, Owned};
 use hierarchy::lower_of;

@@ -7,7 +7,7 @@ ghost use Rattle.sets.specs.Held.{set128};
 ghost use Rattle.model.specs.Hierarchy.{candidateCount, authorisedUsers};
 ghost use Rattle.model.specs.Indexes.{lower, rolesOfUser};
 ghost use Rattle.model.specs.State.{State, rolesOf};
-ghost use Rattle.model.proofs.Record.{Limits};
+ghost use Rattle.model.specs.Record.{Limits};
 ghost use Rattle.tables.specs.Tables.{Holds};
 ghost use Rattle.indexes.specs.Tables.{Owned, sharedBy};
 use crate::index::Own;

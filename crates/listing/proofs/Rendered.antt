@@ -17,11 +17,11 @@ use Rattle.model.specs.Lists.{setAt}
 use Rattle.model.specs.Hierarchy.{Rows, candidateCount, permissionSet, directPermissions, directMembers, immediateJuniors, building}
 use Rattle.model.specs.Quality.{Weights, weightsAllowed, counted, counts, weigh, quality}
 use Rattle.model.specs.State.{State, rolesOf}
-use Rattle.model.specs.Record.{built, stateOf, rowsOf, sound, juniorsStart, membersStart, permissionsStart, setsStart}
+use Rattle.model.specs.Record.{built, stateOf, rowsOf, sound, juniorsStart, membersStart, permissionsStart, setsStart, Limits}
 use Rattle.model.specs.Machine.Call.{eliminate, review}
 use Rattle.model.specs.Claim.{wordsAfter}
 use Rattle.model.specs.Calls.{Edited, Told, edit, unfit, told, qualityOf}
-use Rattle.model.proofs.Record.{Limits, sound-iff, read-users, read-permissions, read-count, read-set, rows-back}
+use Rattle.model.proofs.Record.{sound-iff, read-users, read-permissions, read-count, read-set, rows-back}
 use Rattle.model.proofs.Bounds.{weightsAllowed-iff}
 use Rattle.model.proofs.Claim.{claim, sound-unfit}
 use Rattle.indexes.proofs.Sources.{narrow}

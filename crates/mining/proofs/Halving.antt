@@ -12,7 +12,8 @@ use borrow.Author.Tests.{eqb-true, eqb-false, ltb-true, ltb-false}
 use Rattle.sets.proofs.Truth.{equal-or}
 use Rattle.model.specs.Lists.{setAt, rowsAt}
 use Rattle.model.proofs.Lists.{length-rowsAt}
-use Rattle.model.proofs.Growing.{Growing, growing-after}
+use Rattle.model.specs.Candidates.{Growing}
+use Rattle.model.proofs.Growing.{growing-after}
 use Rattle.mining.specs.Mining.{Between}
 use Rattle.mining.proofs.Rows.{row-at}
 

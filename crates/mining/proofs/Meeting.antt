@@ -12,10 +12,10 @@ use borrow.Author.Tests.{eq-eqb, ne-eqb, lt-ltb, le-ltb}
 use Rattle.sets.specs.Sets.{_∩_}
 use Rattle.sets.proofs.Truth.{either, equal-or, if-true, if-false}
 use Rattle.sets.proofs.Order.{∩-self, ∩-assoc}
-use Rattle.model.specs.Candidates.{place, addRow, Listed}
+use Rattle.model.specs.Candidates.{place, addRow, Listed, Growing, Table}
 use Rattle.model.specs.Lists.{rowsAt}
-use Rattle.model.proofs.Growing.{Growing, Among, listed-at, among-length, among-equal, place-new, place-old, place-iff, place-growing}
-use Rattle.model.proofs.Candidates.{Table, Met, add-empty, add-listed, add-growing, add-old, add-row, add-meet, add-is, added-zero, added-length, admit-place, addedTo}
+use Rattle.model.proofs.Growing.{Among, listed-at, among-length, among-equal, place-new, place-old, place-iff, place-growing}
+use Rattle.model.proofs.Candidates.{Met, add-empty, add-listed, add-growing, add-old, add-row, add-meet, add-is, added-zero, added-length, admit-place, addedTo}
 use Rattle.mining.specs.Mining.{Framed, Holds}
 use Rattle.mining.proofs.Placing.{holds-equal}
 

@@ -6,10 +6,10 @@ use Prim.Native.Nat.{ℕ, suc, _+_, _*_, _≤_, _<_}
 use native.Mathlib.Omega.{arith}
 use lib.ListN.{length, getD}
 use Rattle.sets.proofs.Words.{Words}
-use Rattle.model.specs.Candidates.{addRow, minedTo, candidates}
+use Rattle.model.specs.Candidates.{addRow, minedTo, candidates, Table}
 use Rattle.model.specs.Lists.{tabulate, setAt, rowsAt}
 use Rattle.model.proofs.Lists.{length-rowsAt, getD-rowsAt}
-use Rattle.model.proofs.Candidates.{Table, mined-table, mined-suc, candidates-mined, mined-no-more}
+use Rattle.model.proofs.Candidates.{mined-table, mined-suc, candidates-mined, mined-no-more}
 use Rattle.mining.specs.Mining.{Holds, Written}
 use Rattle.mining.proofs.Written.{holds-written}
 

@@ -6,10 +6,10 @@ use Prim.Native.Nat.{ℕ, suc, _+_, _≤_, _<_}
 use native.Mathlib.Numerals.{add-one}
 use native.Mathlib.Omega.{arith}
 use lib.ListN.{length, getD}
-use Rattle.model.specs.Candidates.{place, Listed}
+use Rattle.model.specs.Candidates.{place, Listed, Growing}
 use Rattle.model.specs.Lists.{rowsAt}
 use Rattle.model.proofs.Lists.{length-rowsAt}
-use Rattle.model.proofs.Growing.{Growing, place-listed, placed, placed-length}
+use Rattle.model.proofs.Growing.{place-listed, placed, placed-length}
 use Rattle.mining.specs.Mining.{Between, Inserts, Framed, Holds}
 
 -- a table holds its own sets, and any list that is equal to theirs

@@ -7,10 +7,10 @@ use mathlib.Core.List.{List}
 use Prim.Native.Nat.{ℕ, _+_, _*_, _≤_, _<_}
 use lib.ListN.{length, getD}
 use Rattle.sets.specs.Sets.{_∩_}
-use Rattle.model.specs.Candidates.{place, addRow, Listed}
+use Rattle.model.specs.Candidates.{place, addRow, Listed, Growing}
 use Rattle.model.specs.Lists.{setAt, rowsAt}
 use Rattle.model.proofs.Lists.{length-rowsAt}
-use Rattle.model.proofs.Growing.{Growing, listed-at, place-new, place-old}
+use Rattle.model.proofs.Growing.{listed-at, place-new, place-old}
 use Rattle.mining.specs.Mining.{Framed, Holds, Seen, Known}
 use Rattle.mining.proofs.Rows.{row-at}
 use Rattle.mining.proofs.Placing.{holds-equal}

@@ -13,12 +13,12 @@ use Rattle.sets.specs.Words.{word}
 use Rattle.sets.proofs.Truth.{same-test, and-iff, or-iff, eqb-iff, leb-iff, ltb-iff, either}
 use Rattle.model.specs.Hierarchy.{Roles, candidateCount, immediatelySenior, immediateJuniors, directPermissions, directMembers}
 use Rattle.model.specs.State.{State, rolesOf, standingNow}
-use Rattle.model.specs.Record.{recordLength, permissionsStart, membersStart, juniorsStart, headerWord, wordAt, built}
+use Rattle.model.specs.Record.{recordLength, permissionsStart, membersStart, juniorsStart, headerWord, wordAt, built, Limits}
 use Rattle.model.specs.Altered.{inside, rowWord, concerned, Altered}
 use Rattle.model.proofs.Reading.{Ordered}
 use Rattle.model.proofs.Building.{stands-below, absent-juniors, absent-permissions, absent-members}
 use Rattle.model.proofs.Changes.{stands-other, juniors-same, permissions-same, members-same}
-use Rattle.model.proofs.Record.{Limits, by-region, word-head, word-crew, word-set, word-permissions, word-members, word-juniors, built-word, read-standing}
+use Rattle.model.proofs.Record.{by-region, word-head, word-crew, word-set, word-permissions, word-members, word-juniors, built-word, read-standing}
 
 inside-of : (w at j : ℕ) → j < w → So (inside w at (at + j))
 unfolding inside

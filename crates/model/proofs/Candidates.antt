@@ -16,8 +16,8 @@ use Rattle.sets.specs.Sets.{has, _∩_, _∖_, single, subset, properSubset, co
 use Rattle.sets.proofs.Truth.{by-test, or-iff, same-test, not-So, So-not, reflect, equal-or, if-true, if-false}
 use Rattle.sets.proofs.Items.{has-zero, below-power, same-set, item-below, below-of-items, item-of, has-above}
 use Rattle.sets.proofs.Order.{∩-iff, ∖-iff, ∖-lt, single-iff, subset-iff, subset-refl, subset-≤, proper-iff, proper-<, proper-subset, collect-lt, collect-iff, zero-∩, ∩-comm}
-use Rattle.model.specs.Candidates.{place, admit, admitMeets, addRow, minedTo, candidates, Intersection, Listed}
-use Rattle.model.proofs.Growing.{Growing, Among, listed-at, listed-none, listed-first, listed-later, listed-cons, growing-none, growing-later, growing-place, among-length, among-equal, place-new, place-old, place-iff, place-growing, place-listed, place-length}
+use Rattle.model.specs.Candidates.{place, admit, admitMeets, addRow, minedTo, candidates, Intersection, Listed, Growing, Table}
+use Rattle.model.proofs.Growing.{Among, listed-at, listed-none, listed-first, listed-later, listed-cons, growing-none, growing-later, growing-place, among-length, among-equal, place-new, place-old, place-iff, place-growing, place-listed, place-length}
 
 ∩-zero : (a : ℕ) → a ∩ 0 ≡ 0
 ∩-zero a = ∩-comm a 0 ∙ zero-∩ a
@@ -377,11 +377,6 @@ pub mined-length : (rows : List ℕ) (n n' : ℕ) → n ≤ n' → length (mined
 mined-length rows n n' h = mined-fewer rows n rows n' (λ u l. (u, omega arith, refl))
 
 -- ---- what a table of candidates is, and the rows that add nothing to it
-
-pub record Table (xs : List ℕ) : Type 0 where
-  pub grows : Growing xs
-  pub nonempty : (x : ℕ) → Listed xs x → x ≢ 0
-  pub closed : (x y : ℕ) → Listed xs x → Listed xs y → x ∩ y ≢ 0 → Listed xs (x ∩ y)
 
 pub mined-table : (rows : List ℕ) (n : ℕ) → Table (minedTo rows n)
 mined-table rows n =

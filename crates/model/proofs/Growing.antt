@@ -11,10 +11,7 @@ use lib.ListN.{length, getD, take, drop, length-append, length-drop, List·getD-
 use lib.Seq.{length-take-le, getD-take, getD-drop, getD-at, getD-append-add}
 use borrow.Author.Tests.{eq-eqb, ne-eqb, lt-ltb, le-ltb}
 use Rattle.sets.proofs.Truth.{either, equal-or, if-true, if-false}
-use Rattle.model.specs.Candidates.{place, Listed}
-
-pub record Growing (xs : List ℕ) : Type 0 where
-  pub order : (i j : ℕ) → i < j → j < length xs → getD xs i 0 < getD xs j 0
+use Rattle.model.specs.Candidates.{place, Listed, Growing}
 
 -- every member of the first list is one of the second
 abbrev pub Among : List ℕ → List ℕ → Type 0

@@ -17,7 +17,7 @@ use Rattle.model.specs.State.{State, rolesOf}
 use Rattle.model.proofs.Growing.{listed-at}
 use Rattle.model.proofs.Candidates.{candidates-table, proper-lower, row-candidate, candidate-iff, candidate-within}
 use Rattle.model.proofs.Reading.{user-iff}
-use Rattle.model.proofs.Record.{Limits}
+use Rattle.model.specs.Record.{Limits}
 use Rattle.model.proofs.Shortcuts.{rolesOfUser-iff, rolesOfPermission-iff}
 
 -- of a candidate and one that lies within it, the number of the latter is lower, or they are the same set

@@ -24,7 +24,7 @@ use Rattle.model.specs.Lists.{setAt, rowsAt}
 use Rattle.model.specs.Hierarchy.{Roles, candidateCount, immediatelySenior, permissionSet, immediateJuniors, directPermissions, directMembers, building}
 use Rattle.model.specs.Coverage.{allCovered}
 use Rattle.model.specs.State.{State, rolesOf, withinLimits, rowsWithin}
-use Rattle.model.specs.Record.{recordLength, crewStart, setsStart, permissionsStart, membersStart, juniorsStart, headerWord, regionWord, wordAt, built, stateOf, rowsOf, stateSound, sound}
+use Rattle.model.specs.Record.{recordLength, crewStart, setsStart, permissionsStart, membersStart, juniorsStart, headerWord, regionWord, wordAt, built, stateOf, rowsOf, stateSound, sound, Limits}
 use Rattle.model.proofs.Building.{absent-juniors, absent-permissions, absent-members}
 use Rattle.model.proofs.Lists.{length-tabulate, getD-tabulate, tabulate-is, setAt-words, length-rowsAt, getD-rowsAt}
 
@@ -129,16 +129,6 @@ module _ (st : State) where
   built-word i h = getD-tabulate recordLength (wordAt st) i h
 
 -- ---- the paper's limits, each by its name
-
-pub record Limits (st : State) : Type 0 where
-  pub users-some : 1 ≤ st .users
-  pub users-most : st .users ≤ 128
-  pub permissions-some : 1 ≤ st .permissions
-  pub permissions-most : st .permissions ≤ 256
-  pub rows-count : length (st .rows) ≡ st .users
-  pub rows-below : (u : ℕ) → u < st .users → getD (st .rows) u 0 < 2 ^ st .permissions
-  pub candidates-most : candidateCount (rolesOf st) ≤ 128
-  pub standing-below : st .standing < 2 ^ candidateCount (rolesOf st)
 
 pub withinLimits-iff : (n m : ℕ) → So (withinLimits n m) ↔ ((1 ≤ n) × (n ≤ 128) × (1 ≤ m) × (m ≤ 256))
 unfolding withinLimits

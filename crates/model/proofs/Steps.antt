@@ -24,7 +24,7 @@ use Rattle.model.specs.Machine.Call.{strike, restore, eliminate, review}
 use Rattle.model.proofs.Candidates.{proper-lower, row-candidate}
 use Rattle.model.proofs.Reading.{Ordered, user-iff, covers-iff, covered-iff, allCovered-iff, strikable-stands}
 use Rattle.model.proofs.Changes.{struck-covered, restored-covered}
-use Rattle.model.proofs.Record.{Limits}
+use Rattle.model.specs.Record.{Limits}
 use Rattle.model.proofs.Elimination.{Strikes, eliminated-going}
 use Rattle.model.proofs.Review.{Restores, reviewed-going}
 

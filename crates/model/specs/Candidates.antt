@@ -51,3 +51,13 @@ pub record Listed (xs : List ℕ) (x : ℕ) : Type 0 where
   pub place : ℕ
   pub below : place < length xs
   pub there : getD xs place 0 ≡ x
+
+-- each number once, the smaller first: "numbered by growing value"
+pub record Growing (xs : List ℕ) : Type 0 where
+  pub order : (i j : ℕ) → i < j → j < length xs → getD xs i 0 < getD xs j 0
+
+-- what every list of candidates is: it grows, has no empty set, and has the intersections of its sets that are not empty
+pub record Table (xs : List ℕ) : Type 0 where
+  pub grows : Growing xs
+  pub nonempty : (x : ℕ) → Listed xs x → x ≢ 0
+  pub closed : (x y : ℕ) → Listed xs x → Listed xs y → x ∩ y ≢ 0 → Listed xs (x ∩ y)

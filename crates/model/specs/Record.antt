@@ -1,8 +1,9 @@
 -- The record, word by word; building afresh; sound.
 -- Assumes nothing.
+use mathlib.Core.Path.{_≡_}
 use mathlib.Core.Bool.{Bool}
 use mathlib.Core.List.{List, [], _∷_}
-use Prim.Native.Nat.{ℕ, _+_, _-_, _*_, _/_, _%_, _^_}
+use Prim.Native.Nat.{ℕ, _+_, _-_, _*_, _/_, _%_, _^_, _≤_, _<_}
 use lib.Dec.{eqb, leb, ltb}
 use lib.ListN.{length, getD}
 use Rattle.sets.specs.Truth.{_and_, if_then_else_, all}
@@ -88,3 +89,14 @@ stateSound st =
 unfoldable pub sound : List ℕ → Bool
 sound ws =
     eqb (length ws) recordLength and stateSound (stateOf ws) and all recordLength (λ i. eqb (getD ws i 0) (wordAt (stateOf ws) i))
+
+-- the limits of 01, kept by a state: what every record that is built afresh is asked to keep
+pub record Limits (st : State) : Type 0 where
+  pub users-some : 1 ≤ st .users
+  pub users-most : st .users ≤ 128
+  pub permissions-some : 1 ≤ st .permissions
+  pub permissions-most : st .permissions ≤ 256
+  pub rows-count : length (st .rows) ≡ st .users
+  pub rows-below : (u : ℕ) → u < st .users → getD (st .rows) u 0 < 2 ^ st .permissions
+  pub candidates-most : candidateCount (rolesOf st) ≤ 128
+  pub standing-below : st .standing < 2 ^ candidateCount (rolesOf st)

@@ -1,24 +1,13 @@
--- Sets read in a part of a list, and the rows of any record.
+-- The rows of any record.
 -- Assumes nothing.
-use mathlib.Core.Path.{_≡_, _∙_, ap}
+use mathlib.Core.Path.{_≡_}
 use mathlib.Core.List.{List}
-use Prim.Native.Nat.{ℕ, _+_, _*_, _≤_, _<_}
-use native.Mathlib.Omega.{arith}
+use Prim.Native.Nat.{ℕ, _+_, _*_, _<_}
 use lib.Dec.{ltb}
-use lib.ListN.{getD, take, drop}
-use lib.Seq.{getD-take, getD-drop}
+use lib.ListN.{getD}
 use Rattle.sets.proofs.Truth.{ltb-iff, if-true}
 use Rattle.model.specs.Lists.{setAt}
 use Rattle.model.specs.Record.{permissionsStart, membersStart, juniorsStart, rowsOf}
-use Rattle.model.proofs.Lists.{setAt-same}
-
--- place i of the part of n words from place `at` on is place at + i of the whole
-pub setAt-part : (w at n : ℕ) (ws : List ℕ) (i : ℕ) → i + w ≤ n → setAt w (take n (drop at ws)) i ≡ setAt w ws (at + i)
-setAt-part w at n ws i h =
-    setAt-same w (take n (drop at ws)) ws i (at + i)
-    (λ j l.
-    getD-take n (drop at ws) (i + j) 0 (omega arith) ∙ getD-drop at ws (i + j) 0
-    ∙ ap (λ (x : ℕ). getD ws x 0) (let e : at + (i + j) ≡ at + i + j = omega arith in e))
 
 -- ---- the rows of any record, below its number of roles
 

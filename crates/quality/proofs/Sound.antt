@@ -26,7 +26,8 @@ use Rattle.model.proofs.Steps.{limits-ordered}
 use Rattle.model.proofs.Claim.{sound-fit, words-authorised}
 use Rattle.tables.specs.Tables.{Holds}
 use Rattle.quality.specs.Reading.{Downward}
-use Rattle.quality.proofs.Parts.{setAt-part, row-juniors, row-permissions, row-members}
+use Rattle.tables.proofs.Parts.{setAt-part}
+use Rattle.quality.proofs.Parts.{row-juniors, row-permissions, row-members}
 
 module _ (ws : List ℕ) (h : So (sound ws)) where
   -- word 2 is c

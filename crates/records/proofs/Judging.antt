@@ -20,10 +20,10 @@ use Rattle.model.specs.Lists.{setAt, rowsAt}
 use Rattle.model.specs.Candidates.{candidates}
 use Rattle.model.specs.Hierarchy.{candidateCount, permissionSet}
 use Rattle.model.specs.Coverage.{allCovered}
-use Rattle.model.specs.Record.{recordLength, wordAt, stateOf, stateSound, sound}
+use Rattle.model.specs.Record.{recordLength, wordAt, stateOf, stateSound, sound, Limits}
 use Rattle.model.specs.State.{State, rolesOf, fresh, withinLimits, rowsWithin}
 use Rattle.model.proofs.Lists.{length-rowsAt, getD-rowsAt}
-use Rattle.model.proofs.Record.{Limits, withinLimits-iff, rowsWithin-iff, stateSound-iff, sound-iff}
+use Rattle.model.proofs.Record.{withinLimits-iff, rowsWithin-iff, stateSound-iff, sound-iff}
 use Rattle.stores.specs.Stores.{putAt}
 use Rattle.tables.specs.Tables.{Holds}
 use Rattle.stores.proofs.Stores.{putAt-in, putAt-above}

@@ -12,7 +12,7 @@ use Rattle.model.specs.Hierarchy.{candidateCount, permissionSet}
 use Rattle.model.specs.Coverage.{grant, covered}
 use Rattle.model.specs.Indexes.{rolesOfUser}
 use Rattle.model.specs.State.{State, rolesOf}
-use Rattle.model.proofs.Record.{Limits}
+use Rattle.model.specs.Record.{Limits}
 use Rattle.indexes.specs.Tables.{Source}
 
 -- a state's crew rows and candidates, word by word, each with zeros after them

@@ -12,7 +12,7 @@ ghost use Rattle.model.specs.Lists.{rowsAt};
 ghost use Rattle.model.specs.Coverage.{allCovered};
 ghost use Rattle.model.specs.Record.{recordLength, wordAt, stateOf, sound};
 ghost use Rattle.model.specs.State.{State, rolesOf, withinLimits, rowsWithin};
-ghost use Rattle.model.proofs.Growing.{Growing};
+ghost use Rattle.model.specs.Candidates.{Growing};
 ghost use Rattle.indexes.specs.Tables.{Indexed, Built, Zeros};
 ghost use Rattle.records.specs.Records.{Tabled};
 use crate::cover::all_covered;

@@ -7,7 +7,7 @@ ghost use Rattle.sets.specs.Held.{set128};
 ghost use Rattle.model.specs.Lists.{rowsAt};
 ghost use Rattle.model.specs.Record.{recordLength, built};
 ghost use Rattle.model.specs.State.{State, fresh};
-ghost use Rattle.model.proofs.Growing.{Growing};
+ghost use Rattle.model.specs.Candidates.{Growing};
 ghost use Rattle.indexes.specs.Tables.{Indexed};
 ghost use Rattle.records.specs.Records.{Tabled};
 use crate::check::pad;

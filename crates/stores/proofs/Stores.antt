@@ -1,13 +1,16 @@
 -- Values stored into a list.
 -- Assumes nothing.
 use mathlib.Core.Path.{_≡_, refl, sym, _∙_, ap}
+use mathlib.Core.Bool.{Bool, true, false}
 use mathlib.Core.List.{List, [], _∷_, _++_}
-use Prim.Native.Nat.{ℕ, zero, suc, _+_, _≤_, _<_}
+use Prim.Native.Nat.{ℕ, zero, suc, _+_, _-_, _≤_, _<_}
 use native.Mathlib.Nat.{add-zero, zero-add, not-suc-le-zero, le-of-suc-le-suc}
 use native.Mathlib.Omega.{arith}
 use native.Mathlib.Numerals.{add-one}
-use lib.ListN.{length, getD, set, take, length-set}
-use lib.Seq.{ext-getD, take-suc, take-all, length-take-le, getD-set-same, getD-set-other}
+use lib.Dec.{ltb}
+use lib.ListN.{length, getD, set, take, drop, length-set, length-append, length-drop, List·getD-append}
+use lib.Seq.{ext-getD, take-suc, take-all, length-take-le, getD-take, getD-drop, getD-append-add, getD-set-same, getD-set-other}
+use borrow.Author.Tests.{ltb-true, ltb-false}
 use Rattle.stores.specs.Stores.{putAt}
 
 pub length-putAt : (l : List ℕ) (at : ℕ) (vs : List ℕ) → length (putAt l at vs) ≡ length l
@@ -71,3 +74,41 @@ putAt-whole l vs e =
     (λ i h.
     let b : i < length vs = rw (length-putAt l 0 vs ∙ e) at h in
     ap (λ (x : ℕ). getD (putAt l 0 vs) x 0) (sym (zero-add i)) ∙ putAt-in l 0 vs i (omega arith) b)
+
+either : {C : Type 0} (a b : ℕ) → (a < b → C) → (b ≤ a → C) → C
+either {C} a b l r = go (ltb a b) refl
+  where
+    go : (t : Bool) → ltb a b ≡ t → C
+    go true e = l (ltb-true a b e)
+    go false e = r (ltb-false a b e)
+
+-- a part of a slice that was lent comes back between what stands before and after it: the part is stored there
+module _ (l : List ℕ) (at n : ℕ) (vs : List ℕ) (e : length vs ≡ n) (fits : at + n ≤ length l) where
+  front : length (take at l) ≡ at
+  front = length-take-le at l (omega arith)
+
+  back-length : length (take at l ++ (vs ++ drop n (drop at l))) ≡ length l
+  back-length = simp (length-append, front, e, length-drop) (omega arith)
+
+  back-after : (j : ℕ) → getD (take at l ++ (vs ++ drop n (drop at l))) (at + j) 0 ≡ getD (vs ++ drop n (drop at l)) j 0
+  back-after j = ap (λ (k : ℕ). getD (take at l ++ (vs ++ drop n (drop at l))) (k + j) 0) (sym front) ∙ getD-append-add (take at l) (vs ++ drop n (drop at l)) j 0
+
+  pub part-back : take at l ++ (vs ++ drop n (drop at l)) ≡ putAt l at vs
+  part-back =
+      ext-getD 0 (take at l ++ (vs ++ drop n (drop at l))) (putAt l at vs) (back-length ∙ sym (length-putAt l at vs))
+      (λ i h.
+      either i at
+      (λ b. List·getD-append (take at l) (vs ++ drop n (drop at l)) 0 i (rw front b) ∙ getD-take at l i 0 b ∙ sym (putAt-below l at vs i b))
+      (λ b.
+      let d : i ≡ at + (i - at) = omega arith in
+      either i (at + n)
+      (λ b2.
+      let small : i - at < length vs = omega arith in
+      rw d (back-after (i - at) ∙ List·getD-append vs (drop n (drop at l)) 0 (i - at) small ∙ sym (putAt-in l at vs (i - at) (omega arith) small)))
+      (λ b2.
+      let f : i - at ≡ length vs + (i - at - n) = omega arith in
+      let g : at + (n + (i - at - n)) ≡ i = omega arith in
+      ap (λ (k : ℕ). getD (take at l ++ (vs ++ drop n (drop at l))) k 0) d ∙ back-after (i - at)
+      ∙ ap (λ (k : ℕ). getD (vs ++ drop n (drop at l)) k 0) f ∙ getD-append-add vs (drop n (drop at l)) (i - at - n) 0
+      ∙ getD-drop n (drop at l) (i - at - n) 0 ∙ getD-drop at l (n + (i - at - n)) 0 ∙ ap (λ (k : ℕ). getD l k 0) g
+      ∙ sym (putAt-above l at vs i (omega arith)))))

@@ -1,3 +1,4 @@
 pub mod Within
 pub mod Stores
 pub mod Tables
+pub mod Parts

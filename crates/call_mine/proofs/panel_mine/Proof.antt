@@ -6,7 +6,7 @@ use Prim.Native.Nat.{_+_, _*_, _≤_}
 use native.Mathlib.Omega.{arith}
 use lib.ListN.{length}
 use borrow.Author.Tests.{not-true, not-false}
-use Rattle.model.proofs.Growing.{Growing}
+use Rattle.model.specs.Candidates.{Growing}
 use Rattle.model.proofs.Candidates.{candidates-growing}
 use Rattle.mining.specs.Mining.{Mines}
 use Rattle.mining.proofs.Written.{blank}

@@ -8,9 +8,8 @@ use lib.Count.{ones}
 use lib.ListN.{length}
 use Rattle.sets.specs.Held.{set128}
 use Rattle.model.specs.Hierarchy.{Rows, candidateCount, authorisedUsers}
-use Rattle.model.specs.Record.{recordLength}
+use Rattle.model.specs.Record.{recordLength, Limits}
 use Rattle.model.specs.State.{State, rolesOf}
-use Rattle.model.proofs.Record.{Limits}
 use Rattle.tables.specs.Tables.{Holds}
 use Rattle.hierarchy.proofs.Sieving.{fewer, not-empty, is-empty}
 use Rattle.edit_rows.specs.Partway.{Partway}

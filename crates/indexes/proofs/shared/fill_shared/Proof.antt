@@ -16,7 +16,7 @@ use Rattle.sets.proofs.Written.{words, held128}
 use Rattle.model.specs.Hierarchy.{candidateCount, authorisedUsers}
 use Rattle.model.specs.Indexes.{lower, rolesOfUser}
 use Rattle.model.specs.State.{State, rolesOf}
-use Rattle.model.proofs.Record.{Limits}
+use Rattle.model.specs.Record.{Limits}
 use Rattle.tables.specs.Tables.{Holds}
 use Rattle.tables.proofs.Tables.{HeldBut, held-more}
 use Rattle.hierarchy.proofs.Sieving.{fewer, not-empty, is-empty}

@@ -8,7 +8,7 @@ use lib.ListN.{length, getD}
 use borrow.Author.Tests.{not-false}
 use Rattle.sets.proofs.Truth.{So-not}
 use Rattle.model.specs.Record.{stateOf}
-use Rattle.model.proofs.Growing.{Growing}
+use Rattle.model.specs.Candidates.{Growing}
 use Rattle.model.proofs.Candidates.{candidates-growing}
 use Rattle.mining.specs.Mining.{Mines}
 use Rattle.mining.proofs.Written.{blank}
