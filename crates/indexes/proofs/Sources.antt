@@ -4,34 +4,35 @@ use mathlib.Core.Path.{_≡_, sym, _∙_, ap}
 use mathlib.Core.Bool.{So}
 use mathlib.Core.Logic.{_≢_}
 use mathlib.Core.List.{List}
-use Prim.Native.Nat.{ℕ, _+_, _*_, _^_, _≤_, _<_}
-use native.Mathlib.Nat.{lt-of-lt-of-le, lt-irrefl, le-trans, mul-le-mul-left}
+use Prim.Native.Nat.{ℕ, _+_, _*_, _^_, _<_}
+use native.Mathlib.Nat.{lt-of-lt-of-le, lt-irrefl}
 use native.Mathlib.Omega.{arith}
 use lib.Dec.{ltb}
 use lib.Pow.{pow-pos}
 use lib.ListN.{length, getD}
-use Rattle.sets.specs.Truth.{if_then_else_}
 use Rattle.sets.specs.Sets.{has, _∪_, single, subset, collect}
 use Rattle.sets.proofs.Truth.{either, ltb-iff, if-true}
-use Rattle.sets.proofs.Items.{same-set, item-below}
+use Rattle.sets.proofs.Items.{same-set}
 use Rattle.sets.proofs.Order.{collect-iff, proper-iff}
 use Rattle.sets.proofs.Words.{word-zero}
 use Rattle.model.specs.Lists.{setAt, rowsAt}
 use Rattle.model.specs.Candidates.{candidates}
-use Rattle.model.specs.Hierarchy.{candidateCount, permissionSet, authorisedUsers, immediateJuniors, directPermissions, directMembers}
+use Rattle.model.specs.Hierarchy.{Roles, candidateCount, permissionSet, authorisedUsers}
 use Rattle.model.specs.Indexes.{lower, rolesOfUser}
 use Rattle.model.specs.State.{State, rolesOf}
 use Rattle.model.proofs.Growing.{growing-place, listed-at}
 use Rattle.model.proofs.Candidates.{candidates-growing, candidates-table, proper-lower, row-candidate, candidate-bound}
 use Rattle.model.proofs.Lists.{length-rowsAt, getD-rowsAt, setAt-words}
 use Rattle.model.proofs.Reading.{user-iff}
-use Rattle.model.proofs.Building.{absent-juniors, absent-permissions, absent-members}
 use Rattle.model.specs.Record.{Limits}
 use Rattle.model.proofs.Shortcuts.{lower-iff, rolesOfUser-iff, user-own, user-none}
-use Rattle.tables.specs.Tables.{Holds, Filled}
+use Rattle.tables.specs.Tables.{Holds}
 use Rattle.hierarchy.specs.Tables.{Numbered, Narrow}
 use Rattle.mining.specs.Mining.{Between}
-use Rattle.indexes.specs.Tables.{Source, Indexed, Built, Zeros}
+use Rattle.stores.specs.Stores.{putAt}
+use Rattle.stores.proofs.Stores.{length-putAt, part-before, part-behind, part-stored}
+use Rattle.indexes.specs.Index.{indexLength, lowerStart, rolesStart, usersStart, Indexed}
+use Rattle.indexes.specs.Tables.{Source, Tabled}
 
 -- ---- states within the limits
 
@@ -155,42 +156,34 @@ module _ (st : State) (crew : List ℕ) (at n : ℕ) (table : List ℕ) (c : ℕ
       → Holds 2 c (authorisedUsers (rolesOf st)) users
   users-held roles users hr hu k l = hu k l ∙ users-found roles hr k l
 
-  pub indexed : (low roles users : List ℕ) → Holds 2 c (lower (rolesOf st)) low → Holds 2 n (rolesOfUser (rolesOf st)) roles
-      → Holds 2 c (authorisedUsers (rolesOf st)) users → Indexed st low roles users
-  indexed low roles users hl hr hu =
+  pub tabled : (low roles users : List ℕ) → Holds 2 c (lower (rolesOf st)) low → Holds 2 n (rolesOfUser (rolesOf st)) roles
+      → Holds 2 c (authorisedUsers (rolesOf st)) users → Tabled (rolesOf st) low roles users
+  unfolding rolesOf
+  tabled low roles users hl hr hu =
       record {
-        low-ones = λ k l. hl k (rw source-count at l);
+        lower-roles = λ k l. hl k (rw source-count at l);
         user-roles = λ u l. hr u (rw (src .users) at l);
         role-users = λ k l. hu k (rw source-count at l);
       }
 
+-- ---- the whole index, stored region by region
+
+pub indexed : (ρ : Roles) (index low roles users : List ℕ) → length index ≡ indexLength → length low ≡ 256 → length roles ≡ 256 → length users ≡ 256
+    → Tabled ρ low roles users → Indexed ρ (putAt (putAt (putAt index usersStart users) lowerStart low) rolesStart roles)
+indexed ρ index low roles users li ll lr lu t =
+    let first = putAt index usersStart users in
+    let second = putAt first lowerStart low in
+    let e1 : length first ≡ indexLength = length-putAt index usersStart users ∙ li in
+    let e2 : length second ≡ indexLength = length-putAt first lowerStart low ∙ e1 in
+    record {
+      size = length-putAt second rolesStart roles ∙ e2;
+      lower-roles = rw (part-before second rolesStart roles lowerStart 256 (omega arith), part-stored first lowerStart low 256 ll (omega arith)) (t .lower-roles);
+      user-roles = rw (part-stored second rolesStart roles 256 lr (omega arith)) (t .user-roles);
+      role-users =
+          rw (part-behind second rolesStart roles usersStart 256 (omega arith), part-behind first lowerStart low usersStart 256 (omega arith), part-stored index usersStart users 256 lu (omega arith))
+          (t .role-users);
+    }
+
 -- words that are zero hold the empty set
 pub setAt-zero : (w : ℕ) (ws : List ℕ) (at : ℕ) → ((j : ℕ) → j < w → getD ws (at + j) 0 ≡ 0) → setAt w ws at ≡ 0
 setAt-zero w ws at h = setAt-words w 0 ws at (pow-pos (64 * w)) (λ j l. h j l ∙ sym (word-zero j))
-
--- ---- the rows of all 128 places: those of the c roles, and zeros
-
-pub all-rows : (w c : ℕ) (f : ℕ → ℕ) (before ws : List ℕ) → Filled w c f before ws → ((i : ℕ) → getD before i 0 ≡ 0) → ((k : ℕ) → c ≤ k → f k ≡ 0)
-    → Holds w 128 f ws
-all-rows w c f before ws filled zero none k l =
-    either k c (λ b. filled .0 k b)
-    (λ b.
-    setAt-zero w ws (w * k) (λ j lj. filled .1 (w * k + j) (le-trans (mul-le-mul-left w b) (omega arith)) ∙ zero (w * k + j)) ∙ sym (none k b))
-
-module _ (st : State) (lim : Limits st) (c : ℕ) (count : candidateCount (rolesOf st) ≡ c) where
-  outside : (k : ℕ) → c ≤ k → So (has (st .standing) k) → ⊥
-  outside k l h = let b = item-below (candidateCount (rolesOf st)) (st .standing) k (lim .standing-below) h in lt-irrefl k (omega arith)
-
-  pub built : (j₀ p₀ m₀ j p m : List ℕ) → Zeros 256 j₀ → Zeros 512 p₀ → Zeros 256 m₀
-      → Filled 2 c (immediateJuniors (rolesOf st) (st .standing)) j₀ j
-      → Filled 4 c (directPermissions (rolesOf st) (st .standing)) p₀ p
-      → Filled 2 c (directMembers (rolesOf st) (st .standing)) m₀ m
-      → Built st j p m
-  built j₀ p₀ m₀ j p m zj zp zm fj fp fm =
-      let ρ = rolesOf st in
-      let R = st .standing in
-      record {
-        junior-rows = all-rows 2 c (immediateJuniors ρ R) j₀ j fj (zj .all-zero) (λ k l. absent-juniors ρ R k (outside k l));
-        permission-rows = all-rows 4 c (directPermissions ρ R) p₀ p fp (zp .all-zero) (λ k l. absent-permissions ρ R k (outside k l));
-        member-rows = all-rows 2 c (directMembers ρ R) m₀ m fm (zm .all-zero) (λ k l. absent-members ρ R k (outside k l));
-      }

@@ -1,6 +1,6 @@
-// The tables of a state: indexes of its roles and users, and the rows of its building.
-mod index;
+// The index of a record: what a call computes once beside it, and then only reads.
 mod layout;
+mod own;
 mod shared;
 mod state;
 
@@ -9,5 +9,4 @@ pub use layout::INDEX_LENGTH;
 pub use layout::LOWER;
 pub use layout::ROLES;
 pub use layout::USERS;
-pub use state::fill_indexes;
-pub use state::fill_rows;
+pub use state::fill_index;

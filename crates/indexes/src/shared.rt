@@ -10,7 +10,7 @@ ghost use Rattle.model.specs.State.{State, rolesOf};
 ghost use Rattle.model.specs.Record.{Limits};
 ghost use Rattle.tables.specs.Tables.{Holds};
 ghost use Rattle.indexes.specs.Tables.{Owned, sharedBy};
-use crate::index::Own;
+use crate::own::Own;
 use hierarchy::lowest_item;
 use sets::Set128;
 use tables::load128;

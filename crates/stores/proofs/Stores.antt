@@ -4,11 +4,11 @@ use mathlib.Core.Path.{_≡_, refl, sym, _∙_, ap}
 use mathlib.Core.Bool.{Bool, true, false}
 use mathlib.Core.List.{List, [], _∷_, _++_}
 use Prim.Native.Nat.{ℕ, zero, suc, _+_, _-_, _≤_, _<_}
-use native.Mathlib.Nat.{add-zero, zero-add, not-suc-le-zero, le-of-suc-le-suc}
+use native.Mathlib.Nat.{add-zero, zero-add, not-suc-le-zero, le-of-suc-le-suc, lt-of-lt-of-le, min-le-left}
 use native.Mathlib.Omega.{arith}
 use native.Mathlib.Numerals.{add-one}
 use lib.Dec.{ltb}
-use lib.ListN.{length, getD, set, take, drop, length-set, length-append, length-drop, List·getD-append}
+use lib.ListN.{length, getD, set, take, drop, length-set, length-append, length-take, length-drop, List·getD-append}
 use lib.Seq.{ext-getD, take-suc, take-all, length-take-le, getD-take, getD-drop, getD-append-add, getD-set-same, getD-set-other}
 use borrow.Author.Tests.{ltb-true, ltb-false}
 use Rattle.stores.specs.Stores.{putAt}
@@ -112,3 +112,29 @@ module _ (l : List ℕ) (at n : ℕ) (vs : List ℕ) (e : length vs ≡ n) (fits
       ∙ ap (λ (k : ℕ). getD (vs ++ drop n (drop at l)) k 0) f ∙ getD-append-add vs (drop n (drop at l)) (i - at - n) 0
       ∙ getD-drop n (drop at l) (i - at - n) 0 ∙ getD-drop at l (n + (i - at - n)) 0 ∙ ap (λ (k : ℕ). getD l k 0) g
       ∙ sym (putAt-above l at vs i (omega arith)))))
+
+-- ---- parts of a list after a store
+
+pub part-same : (l l' : List ℕ) (at n : ℕ) → length l ≡ length l' → ((i : ℕ) → i < n → getD l (at + i) 0 ≡ getD l' (at + i) 0)
+    → take n (drop at l) ≡ take n (drop at l')
+part-same l l' at n e h =
+    ext-getD 0 (take n (drop at l)) (take n (drop at l')) (simp (length-take, length-drop, e))
+    (λ i b.
+    let most : length (take n (drop at l)) ≤ n = rw (length-take n (drop at l)) (min-le-left n (length (drop at l))) in
+    let small : i < n = lt-of-lt-of-le b most in
+    getD-take n (drop at l) i 0 small ∙ getD-drop at l i 0 ∙ h i small ∙ sym (getD-drop at l' i 0) ∙ sym (getD-take n (drop at l') i 0 small))
+
+-- a part that lies before the store, one that lies behind it, and the one that was stored
+pub part-before : (l : List ℕ) (at : ℕ) (vs : List ℕ) (from n : ℕ) → from + n ≤ at → take n (drop from (putAt l at vs)) ≡ take n (drop from l)
+part-before l at vs from n h = part-same (putAt l at vs) l from n (length-putAt l at vs) (λ i b. putAt-below l at vs (from + i) (omega arith))
+
+pub part-behind : (l : List ℕ) (at : ℕ) (vs : List ℕ) (from n : ℕ) → at + length vs ≤ from → take n (drop from (putAt l at vs)) ≡ take n (drop from l)
+part-behind l at vs from n h = part-same (putAt l at vs) l from n (length-putAt l at vs) (λ i b. putAt-above l at vs (from + i) (omega arith))
+
+pub part-stored : (l : List ℕ) (at : ℕ) (vs : List ℕ) (n : ℕ) → length vs ≡ n → at + n ≤ length l → take n (drop at (putAt l at vs)) ≡ vs
+part-stored l at vs n e h =
+    let len : length (take n (drop at (putAt l at vs))) ≡ n = length-take-le n (drop at (putAt l at vs)) (simp (length-drop, length-putAt) (omega arith)) in
+    ext-getD 0 (take n (drop at (putAt l at vs))) vs (len ∙ sym e)
+    (λ i b.
+    let small : i < n = rw len at b in
+    getD-take n (drop at (putAt l at vs)) i 0 small ∙ getD-drop at (putAt l at vs) i 0 ∙ putAt-in l at vs i (omega arith) (omega arith))

@@ -2,12 +2,29 @@
 -- Assumes nothing.
 use borrow.Author.Needs.{needs}
 use mathlib.Core.Path.{sym}
-use Rattle.indexes.proofs.Sources.{source-count, users-held, indexed}
-use Rattle.indexes.proofs.state.fill_indexes.Statement.{statement}
-use Rattle.indexes.proofs.state.fill_indexes.Tie as tie
+use Rattle.indexes.proofs.Sources.{source-count, users-held, tabled}
+use Rattle.indexes.proofs.state.fill_tables.Statement.{statement}
+use Rattle.indexes.proofs.state.fill_tables.Tie as tie
+
+shared-slice-read-n : tie.Need-shared-slice-read-n
+shared-slice-read-n c = search needs
+
+shared-slice-read-c : tie.Need-shared-slice-read-c
+shared-slice-read-c c = search needs
+
+sub-fill-roles : tie.Need-sub-fill-roles
+sub-fill-roles c = search needs
+
+part-fill-roles-start : tie.Need-part-fill-roles-start
+part-fill-roles-start c = search needs
+
+part-fill-roles-end : tie.Need-part-fill-roles-end
+part-fill-roles-end c = search needs
 
 fill-roles-requires : tie.Need-fill-roles-requires
-fill-roles-requires c κs = search needs
+fill-roles-requires c κs =
+    let p = c .before .before .before .before .before .before .before .before .before .pre .0 in
+    (search needs, p .few-users, search needs, search needs, p .few-candidates, p .grows, search needs)
 
 fill-columns-requires : tie.Need-fill-columns-requires
 fill-columns-requires c κs = search needs
@@ -29,12 +46,17 @@ returns c = λ st src.
     let met = c .before .before .before .before .before .before .before .before .before .before .before .before .before .before .before .fill-roles .ensures st src in
     let users = users-held st _ _ _ _ _ src _ _ (met .1 .0) (c .before .before .before .before .before .before .before .before .fill-columns .ensures .0) in
     let low = c .before .before .fill-shared .ensures st (src .limits) (source-count st _ _ _ _ _ src) (λ u l. met .1 .0 u (rw (src .users) at l)) users (rw (sym (src .users)) at (met .0)) in
-    indexed st _ _ _ _ _ src _ _ _ low (met .1 .0) users
+    tabled st _ _ _ _ _ src _ _ _ low (met .1 .0) users
 
-pub fill-indexes-spec : {M : Type 1} → statement M
-fill-indexes-spec =
+pub fill-tables-spec : {M : Type 1} → statement M
+fill-tables-spec =
     tie.close
     (tie.spec
+    shared-slice-read-n
+    shared-slice-read-c
+    sub-fill-roles
+    part-fill-roles-start
+    part-fill-roles-end
     fill-roles-requires
     fill-columns-requires
     fill-shared-requires

@@ -6,8 +6,8 @@ use Prim.Native.Nat.{_^_, _<_}
 use Rattle.sets.specs.Held.{set128}
 use Rattle.sets.proofs.Written.{words, held128}
 use Rattle.indexes.proofs.Owning.{own-learnt}
-use Rattle.indexes.proofs.index.learn.Statement.{statement}
-use Rattle.indexes.proofs.index.learn.Tie as tie
+use Rattle.indexes.proofs.own.learn.Statement.{statement}
+use Rattle.indexes.proofs.own.learn.Tie as tie
 
 contains-requires : tie.Need-contains-requires
 contains-requires c κs = search needs

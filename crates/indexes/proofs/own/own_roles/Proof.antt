@@ -9,8 +9,8 @@ use Rattle.sets.proofs.Truth.{equal-or}
 use Rattle.mining.specs.Mining.{Finds}
 use Rattle.indexes.proofs.Sources.{own-none, own-missing, own-role, own-found}
 use Rattle.indexes.proofs.Owning.{own-more}
-use Rattle.indexes.proofs.index.own_roles.Statement.{statement}
-use Rattle.indexes.proofs.index.own_roles.Tie as tie
+use Rattle.indexes.proofs.own.own_roles.Statement.{statement}
+use Rattle.indexes.proofs.own.own_roles.Tie as tie
 
 search-requires : tie.Need-search-requires
 search-requires c κs = search needs

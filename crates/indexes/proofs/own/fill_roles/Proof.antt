@@ -14,8 +14,8 @@ use Rattle.tables.proofs.Tables.{filled-none, filled-more}
 use Rattle.indexes.specs.Tables.{Source, Owned}
 use Rattle.indexes.proofs.Sources.{source-row}
 use Rattle.indexes.proofs.Owning.{own-start}
-use Rattle.indexes.proofs.index.fill_roles.Statement.{statement}
-use Rattle.indexes.proofs.index.fill_roles.Tie as tie
+use Rattle.indexes.proofs.own.fill_roles.Statement.{statement}
+use Rattle.indexes.proofs.own.fill_roles.Tie as tie
 
 abbrev Inv-loop : tie.InvT-loop
 Inv-loop crew at n table c low₀ out₀ own₀ u₀ low out own u =
