@@ -10,7 +10,7 @@ use native.Mathlib.Numerals.{add-one}
 use native.Mathlib.Omega.{arith}
 use lib.Dec.{ltb}
 use lib.ListN.{length, getD}
-use Rattle.sets.specs.Truth.{all}
+use Rattle.sets.specs.Truth.{if_then_else_, _implies_, all}
 use Rattle.sets.specs.Sets.{has, _∩_, _∪_, _∖_, single, subset, collect}
 use Rattle.sets.proofs.Truth.{by-test, So-not, implies-iff, all-iff, below-suc, equal-or, ltb-iff, if-true}
 use Rattle.sets.proofs.Items.{same-set, has-zero, empty-of}

@@ -10,6 +10,7 @@ use native.Mathlib.Omega.{arith}
 use lib.Dec.{ltb}
 use lib.Pow.{pow-pos}
 use lib.ListN.{length, getD}
+use Rattle.sets.specs.Truth.{if_then_else_}
 use Rattle.sets.specs.Sets.{has, _∪_, single, subset, collect}
 use Rattle.sets.proofs.Truth.{either, ltb-iff, if-true}
 use Rattle.sets.proofs.Items.{same-set}
