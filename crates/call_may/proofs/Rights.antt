@@ -16,7 +16,7 @@ use Rattle.model.specs.Chains.{may}
 use Rattle.model.specs.State.{rolesOf}
 use Rattle.model.specs.Record.{recordLength, stateOf, rowsOf, sound}
 use Rattle.model.specs.Calls.{Told, unfit, mayOf}
-use Rattle.quality.proofs.Sound.{may-granted}
+use Rattle.model.proofs.Sound.{may-granted}
 use Rattle.calls.proofs.Fitting.{unfit-1, unfit-5, fit-sound, some}
 use Rattle.calls.proofs.Telling.{told-refused, told-given, bad-record, good-record}
 use Rattle.call_may.specs.declared.MayAnswer.{MayAnswer}

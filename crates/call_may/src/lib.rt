@@ -1,7 +1,7 @@
 ghost use mathlib.Core.Path.{_≡_};
 ghost use Rattle.model.specs.Calls.{mayOf};
 ghost use Rattle.call_may.specs.Answers.{mayTold};
-use quality::may;
+use access::may;
 use records::record_sound;
 use tables::LENGTH;
 

@@ -25,7 +25,7 @@ use Rattle.indexes.specs.Tables.{Indexed}
 use Rattle.edit_rows.proofs.Changing.{count, few, standing-read}
 use Rattle.quality.specs.declared.quality.Counts.{Counts}
 use Rattle.quality.specs.Reading.{countsOf}
-use Rattle.quality.proofs.Sound.{sound-counts}
+use Rattle.model.proofs.Sound.{sound-counts}
 use Rattle.edit_trials.specs.declared.progress.Progress.{Progress}
 use Rattle.edit_trials.specs.Trying.{Ready, Exact, Kin, runAt}
 use Rattle.calls.proofs.Fitting.{some, unfit-1, unfit-5}

@@ -15,7 +15,7 @@ use Rattle.model.specs.Quality as model
 use Rattle.model.specs.Record.{rowsOf, juniorsStart, membersStart, permissionsStart}
 use Rattle.quality.specs.Reading.{countsOf}
 use Rattle.tables.proofs.Parts.{setAt-part}
-use Rattle.quality.proofs.Parts.{row-juniors, row-permissions, row-members}
+use Rattle.model.proofs.Sound.{row-juniors, row-permissions, row-members}
 
 -- the sets before place i are counted, and have n items together
 pub record Tallied (w : ℕ) (table : List ℕ) (c i n : ℕ) : Type 0 where

@@ -1,9 +1,6 @@
 -- The functions' numbers in the model's terms, and what they ask of rows.
 -- Assumes nothing.
-use mathlib.Core.Bool.{So}
-use Prim.Native.Nat.{ℕ, _≤_, _<_}
-use Rattle.model.specs.Hierarchy.{Rows}
-use Rattle.model.specs.Chains.{link}
+use Prim.Native.Nat.{ℕ, _≤_}
 use Rattle.model.specs.Quality as model
 use Rattle.quality.specs.declared.quality.Counts.{Counts}
 
@@ -21,8 +18,3 @@ pub record Few (q : Counts) : Type 0 where
   pub members : q .members ≤ 16384
   pub permissions : q .permissions ≤ 32768
   pub links : q .links ≤ 16384
-
--- every link leads to one of c roles, and to a lower number
-pub record Downward (c : ℕ) (b : Rows) : Type 0 where
-  pub ends : (k j : ℕ) → So (link b k j) → j < c
-  pub lower : (k j : ℕ) → So (link b k j) → j < k

@@ -2,7 +2,7 @@
 -- Assumes nothing.
 use mathlib.Core.Path.{refl, sym, _∙_}
 use borrow.Author.Tests.{not-true, not-false}
-use Rattle.quality.proofs.Sound.{sound-few}
+use Rattle.model.proofs.Sound.{sound-few}
 use Rattle.call_may.proofs.Rights.{may-told, bit-yes, bit-no, may-1, may-5, may-6-user, may-6-permission, may-given}
 use borrow.Author.Needs.{needs}
 use Rattle.call_may.proofs.panel_may.Statement.{statement}

@@ -8,10 +8,10 @@ use Rattle.sets.specs.Held.{set128}
 use Rattle.sets.specs.Sets.{has}
 use Rattle.sets.specs.Truth.{_and_, any}
 use Rattle.model.specs.Lists.{setAt}
-use Rattle.quality.proofs.Search.{both-tests, any-none, any-more, any-found, any-missed}
+use Rattle.access.proofs.Search.{both-tests, any-none, any-more, any-found, any-missed}
 use borrow.Author.Needs.{needs}
-use Rattle.quality.proofs.rights.some_has.Statement.{statement}
-use Rattle.quality.proofs.rights.some_has.Tie as tie
+use Rattle.access.proofs.rights.some_has.Statement.{statement}
+use Rattle.access.proofs.rights.some_has.Tie as tie
 
 abbrev Inv-loop : tie.InvT-loop
 Inv-loop table roles p j₀ j = (j ≤ 128) × (any j (λ i. has (set128 roles) i and has (setAt 4 table (4 * i)) p) ≡ false)

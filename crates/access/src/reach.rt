@@ -7,7 +7,7 @@ ghost use Rattle.sets.specs.Truth.{if_then_else_};
 ghost use Rattle.model.specs.Hierarchy.{Rows};
 ghost use Rattle.model.specs.Chains.{link, reached};
 ghost use Rattle.tables.specs.Tables.{Holds};
-ghost use Rattle.quality.specs.Reading.{Downward};
+ghost use Rattle.access.specs.Reach.{Downward};
 use sets::Set128;
 use tables::load128;
 

@@ -1,8 +1,8 @@
 -- Assumes nothing.
-use Rattle.quality.proofs.Sound.{may-found}
+use Rattle.access.proofs.Asking.{may-found}
 use borrow.Author.Needs.{needs}
-use Rattle.quality.proofs.rights.may.Statement.{statement}
-use Rattle.quality.proofs.rights.may.Tie as tie
+use Rattle.access.proofs.rights.may.Statement.{statement}
+use Rattle.access.proofs.rights.may.Tie as tie
 
 shared-slice-read-c : tie.Need-shared-slice-read-c
 shared-slice-read-c c = search needs

@@ -2,8 +2,8 @@
 use mathlib.Core.Path.{sym, _∙_}
 use Rattle.sets.proofs.Truth.{if-true, if-false}
 use borrow.Author.Needs.{needs}
-use Rattle.quality.proofs.reach.with_juniors.Statement.{statement}
-use Rattle.quality.proofs.reach.with_juniors.Tie as tie
+use Rattle.access.proofs.reach.with_juniors.Statement.{statement}
+use Rattle.access.proofs.reach.with_juniors.Tie as tie
 
 contains-requires : tie.Need-contains-requires
 contains-requires c κs = search needs

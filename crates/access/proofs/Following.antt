@@ -16,7 +16,7 @@ use Rattle.model.specs.Hierarchy.{Rows}
 use Rattle.model.specs.Chains.{link, reached}
 use Rattle.model.proofs.Chains.{closed-chain, reaches-more, reached-iff}
 use Rattle.tables.specs.Tables.{Holds}
-use Rattle.quality.specs.Reading.{Downward}
+use Rattle.access.specs.Reach.{Downward}
 
 -- t has been found from s, and the links of its roles from k up have been followed
 pub record Followed (b : Rows) (c s k t : ℕ) : Type 0 where

@@ -4,10 +4,10 @@ use mathlib.Core.Path.{_≡_}
 use Prim.Native.Nat.{suc, _-_, _≤_}
 use native.Mathlib.Omega.{arith}
 use Rattle.sets.specs.Held.{set128}
-use Rattle.quality.proofs.Following.{Following, following-none, following-more, following-all}
+use Rattle.access.proofs.Following.{Following, following-none, following-more, following-all}
 use borrow.Author.Needs.{needs}
-use Rattle.quality.proofs.reach.reached_from.Statement.{statement}
-use Rattle.quality.proofs.reach.reached_from.Tie as tie
+use Rattle.access.proofs.reach.reached_from.Statement.{statement}
+use Rattle.access.proofs.reach.reached_from.Tie as tie
 
 abbrev Inv-loop : tie.InvT-loop
 Inv-loop juniors found₀ k₀ found k = (k ≤ 128) × Following juniors (set128 found₀) k (set128 found)
