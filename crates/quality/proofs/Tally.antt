@@ -13,7 +13,7 @@ use Rattle.sets.proofs.Counts.{total-suc, total-zero}
 use Rattle.model.specs.Lists.{setAt}
 use Rattle.model.specs.Quality as model
 use Rattle.model.specs.Record.{rowsOf, juniorsStart, membersStart, permissionsStart}
-use Rattle.quality.specs.Reading.{countsOf}
+use Rattle.quality.specs.Numbers.{countsIn}
 use Rattle.tables.proofs.Parts.{setAt-part}
 use Rattle.model.proofs.Sound.{row-juniors, row-permissions, row-members}
 
@@ -71,8 +71,8 @@ pub counts-found : (ws : List ℕ) (a b d e : ℕ) → getD ws 2 0 ≤ 128 → a
     → b ≡ total (getD ws 2 0) (λ k. ones (setAt 2 (take 256 (drop membersStart ws)) (2 * k)))
     → d ≡ total (getD ws 2 0) (λ k. ones (setAt 4 (take 512 (drop permissionsStart ws)) (4 * k)))
     → e ≡ total (getD ws 2 0) (λ k. ones (setAt 2 (take 256 (drop juniorsStart ws)) (2 * k)))
-    → countsOf (record { roles = a; members = b; permissions = d; links = e }) ≡ model.counted (getD ws 2 0) (rowsOf ws) (setAt 2 ws 4)
-unfolding countsOf model.counted
+    → countsIn (record { roles = a; members = b; permissions = d; links = e }) ≡ model.counted (getD ws 2 0) (rowsOf ws) (setAt 2 ws 4)
+unfolding countsIn model.counted
 counts-found ws a b d e few ea eb ed ee =
     let c = getD ws 2 0 in
     let members = eb ∙ row-total 2 membersStart 256 c ws (rowsOf ws .members) (omega arith) (row-members ws) in

@@ -1,7 +1,11 @@
-// The counts of a record's rows, and their quality.
-mod quality;
+// The counts of a record's rows, and what they weigh.
+mod counts;
+mod weights;
 
-pub use quality::Counts;
-pub use quality::count_rows;
-pub use quality::weigh;
-pub use quality::weights_allowed;
+pub use counts::Counts;
+pub use counts::count_rows;
+pub use weights::Tolerance;
+pub use weights::Weights;
+pub use weights::tolerance_allowed;
+pub use weights::weigh;
+pub use weights::weights_allowed;

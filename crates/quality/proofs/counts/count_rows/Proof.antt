@@ -8,8 +8,8 @@ use Rattle.sets.specs.Held.{set128}
 use Rattle.sets.proofs.Written.{words, held128}
 use Rattle.quality.proofs.Tally.{counts-found}
 use borrow.Author.Needs.{needs}
-use Rattle.quality.proofs.quality.count_rows.Statement.{statement}
-use Rattle.quality.proofs.quality.count_rows.Tie as tie
+use Rattle.quality.proofs.counts.count_rows.Statement.{statement}
+use Rattle.quality.proofs.counts.count_rows.Tie as tie
 
 shared-slice-read-c : tie.Need-shared-slice-read-c
 shared-slice-read-c c = search needs

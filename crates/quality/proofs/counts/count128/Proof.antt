@@ -3,15 +3,15 @@
 use Prim.Native.Nat.{_-_, _^_, _<_}
 use native.Mathlib.Omega.{arith}
 use lib.Count.{ones-le}
-use Rattle.sets.specs.Held.{set256}
-use Rattle.sets.proofs.Written.{words, held256}
+use Rattle.sets.specs.Held.{set128}
+use Rattle.sets.proofs.Written.{words, held128}
 use Rattle.quality.proofs.Tally.{Tallied, tallied-none, tallied-more, tallied-all}
 use borrow.Author.Needs.{needs}
-use Rattle.quality.proofs.quality.count256.Statement.{statement}
-use Rattle.quality.proofs.quality.count256.Tie as tie
+use Rattle.quality.proofs.counts.count128.Statement.{statement}
+use Rattle.quality.proofs.counts.count128.Tie as tie
 
 abbrev Inv-loop : tie.InvT-loop
-Inv-loop table c end n₀ i₀ n i = Tallied 4 table c i n
+Inv-loop table c end n₀ i₀ n i = Tallied 2 table c i n
 
 abbrev μ-loop : tie.MeasureT-loop
 μ-loop table c end n₀ i₀ n i = end - i
@@ -20,21 +20,21 @@ mul-end : tie.Need-mul-end Inv-loop μ-loop
 mul-end c = search needs
 
 loop-holds : tie.Need-loop-holds Inv-loop μ-loop
-loop-holds c = tallied-none 4 _ _
+loop-holds c = tallied-none 2 _ _
 
 add-loop : tie.Need-add-loop Inv-loop μ-loop
 add-loop c = search needs
 
-load256-requires : tie.Need-load256-requires Inv-loop μ-loop
-load256-requires c κs = search needs
+load128-requires : tie.Need-load128-requires Inv-loop μ-loop
+load128-requires c κs = search needs
 
 count-requires : tie.Need-count-requires Inv-loop μ-loop
 count-requires c κs = search needs
 
 add-n : tie.Need-add-n Inv-loop μ-loop
 add-n c =
-    let small : set256 (c .before .load256 .result) < 2 ^ 256 = search (words, held256) in
-    let few = ones-le 256 _ small in
+    let small : set128 (c .before .load128 .result) < 2 ^ 128 = search (words, held128) in
+    let few = ones-le 128 _ small in
     omega arith
 
 add-i : tie.Need-add-i Inv-loop μ-loop
@@ -45,14 +45,14 @@ loop-less c = search needs
 
 loop-again : tie.Need-loop-again Inv-loop μ-loop
 loop-again c =
-    let small : set256 (c .before .load256 .result) < 2 ^ 256 = search (words, held256) in
-    tallied-more 4 _ _ _ _ _ _ (c .before .before .before .loop .inv) (omega arith) (omega arith) (c .before .load256 .ensures) small (c .count .ensures)
+    let small : set128 (c .before .load128 .result) < 2 ^ 128 = search (words, held128) in
+    tallied-more 2 _ _ _ _ _ _ (c .before .before .before .loop .inv) (omega arith) (omega arith) (c .before .load128 .ensures) small (c .count .ensures)
 
 returns : tie.Need-returns Inv-loop μ-loop
-returns c = (tallied-all 4 _ _ _ _ (c .before .loop .inv) (omega arith), let inv = c .before .loop .inv in omega arith)
+returns c = (tallied-all 2 _ _ _ _ (c .before .loop .inv) (omega arith), let inv = c .before .loop .inv in omega arith)
 
-pub count256-spec : {M : Type 1} → statement M
-count256-spec =
+pub count128-spec : {M : Type 1} → statement M
+count128-spec =
     tie.close
     (tie.spec
     Inv-loop
@@ -60,7 +60,7 @@ count256-spec =
     mul-end
     loop-holds
     add-loop
-    load256-requires
+    load128-requires
     count-requires
     add-n
     add-i

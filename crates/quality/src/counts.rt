@@ -1,6 +1,5 @@
-// The quality of the record's rows: four counts and a weight for each.
+// The four counts over a record's rows.
 ghost use mathlib.Core.Path.{_≡_};
-ghost use mathlib.Core.Bool.{So};
 ghost use Prim.Native.Nat.{_*_, _≤_};
 ghost use lib.Count.{ones};
 ghost use lib.ListN.{length, getD};
@@ -8,7 +7,7 @@ ghost use Rattle.sets.specs.Truth.{total};
 ghost use Rattle.model.specs.Lists.{setAt};
 ghost use Rattle.model.specs.Record.{recordLength, rowsOf};
 ghost use Rattle.model.specs.Quality as model;
-ghost use Rattle.quality.specs.Reading.{countsOf, weightsOf, Few};
+ghost use Rattle.quality.specs.Numbers.{countsIn, mostMembers, mostPermissions, mostLinks, Few};
 use tables::JUNIORS;
 use tables::LENGTH;
 use tables::MEMBERS;
@@ -16,8 +15,6 @@ use tables::PERMISSIONS;
 use tables::STANDING;
 use tables::load128;
 use tables::load256;
-
-const MOST_WEIGHT: u64 = 1000;
 
 pub struct Counts {
     pub roles: u64,
@@ -29,7 +26,7 @@ pub struct Counts {
 // The counts over the rows of the record's roles.
 pub fn count_rows(rec: &[u64]) -> Counts
     requires { ⌜ (length (now rec) ≡ recordLength) × (getD (now rec) 2 0 ≤ 128) ⌝ }
-    ensures { λ r. ⌜ (countsOf r ≡ model.counted (getD (now (rec .entry)) 2 0) (rowsOf (now (rec .entry))) (setAt 2 (now (rec .entry)) 4)) × Few r ⌝ }
+    ensures { λ r. ⌜ (countsIn r ≡ model.counted (getD (now (rec .entry)) 2 0) (rowsOf (now (rec .entry))) (setAt 2 (now (rec .entry)) 4)) × Few r ⌝ }
 {
     let c = rec[2] as usize;
     let roles = load128(rec, STANDING).count();
@@ -47,7 +44,7 @@ pub fn count_rows(rec: &[u64]) -> Counts
 // How many items the first c sets of a table have together.
 fn count128(table: &[u64], c: usize) -> usize
     requires { ⌜ (c ≤ 128) × (2 * c ≤ length (now table)) ⌝ }
-    ensures { λ r. ⌜ (r ≡ total c (λ k. ones (setAt 2 (now (table .entry)) (2 * k)))) × (r ≤ 16384) ⌝ }
+    ensures { λ r. ⌜ (r ≡ total c (λ k. ones (setAt 2 (now (table .entry)) (2 * k)))) × (r ≤ mostLinks) ⌝ }
 {
     let end = 2 * c;
     let mut n = 0;
@@ -61,7 +58,7 @@ fn count128(table: &[u64], c: usize) -> usize
 
 fn count256(table: &[u64], c: usize) -> usize
     requires { ⌜ (c ≤ 128) × (4 * c ≤ length (now table)) ⌝ }
-    ensures { λ r. ⌜ (r ≡ total c (λ k. ones (setAt 4 (now (table .entry)) (4 * k)))) × (r ≤ 32768) ⌝ }
+    ensures { λ r. ⌜ (r ≡ total c (λ k. ones (setAt 4 (now (table .entry)) (4 * k)))) × (r ≤ mostPermissions) ⌝ }
 {
     let end = 4 * c;
     let mut n = 0;
@@ -71,18 +68,4 @@ fn count256(table: &[u64], c: usize) -> usize
         i += 4;
     }
     n
-}
-
-// At most 1,000 · (128 + 16,384 + 32,768 + 16,384).
-pub fn weigh(q: Counts, w1: u64, w2: u64, w3: u64, w4: u64) -> u64
-    requires { ⌜ Few q × So (model.weightsAllowed (weightsOf w1 w2 w3 w4)) ⌝ }
-    ensures { λ r. ⌜ (r ≡ model.weigh (weightsOf w1 w2 w3 w4) (countsOf q)) × (r ≤ 65664000) ⌝ }
-{
-    w1 * q.roles + w2 * q.members + w3 * q.permissions + w4 * q.links
-}
-
-pub fn weights_allowed(w1: u64, w2: u64, w3: u64, w4: u64) -> bool
-    ensures { λ r. ⌜ r ≡ model.weightsAllowed (weightsOf w1 w2 w3 w4) ⌝ }
-{
-    (w1 <= MOST_WEIGHT) & (w2 <= MOST_WEIGHT) & (w3 <= MOST_WEIGHT) & (w4 <= MOST_WEIGHT)
 }
