@@ -8,10 +8,10 @@ ghost use Rattle.model.specs.State.{rowsWithin};
 ghost use Rattle.model.specs.Calls.{mine};
 ghost use Rattle.call_mine.specs.Answers.{mined};
 use mining::Mined;
-use records::rows_within;
 use records::write_fresh;
 use tables::LENGTH;
 use tables::limits_kept;
+use tables::rows_within;
 
 // The refusal's number, or 0, and beside 0 the number of candidates.
 #[repr(C)]

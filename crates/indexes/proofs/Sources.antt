@@ -29,7 +29,7 @@ use Rattle.model.specs.Record.{Limits}
 use Rattle.model.proofs.Shortcuts.{lower-iff, rolesOfUser-iff, user-own, user-none}
 use Rattle.tables.specs.Tables.{Holds}
 use Rattle.hierarchy.specs.Tables.{Numbered, Narrow}
-use Rattle.mining.specs.Mining.{Between}
+use Rattle.tables.specs.Search.{Between}
 use Rattle.stores.specs.Stores.{putAt}
 use Rattle.stores.proofs.Stores.{length-putAt, part-before, part-behind, part-stored}
 use Rattle.indexes.specs.Index.{indexLength, lowerStart, rolesStart, usersStart, Indexed}

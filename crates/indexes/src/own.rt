@@ -15,12 +15,12 @@ ghost use Rattle.model.specs.Candidates.{Growing};
 ghost use Rattle.tables.specs.Tables.{Filled};
 ghost use Rattle.indexes.specs.Tables.{Source, Owned};
 use hierarchy::lower_of;
-use mining::Found;
-use mining::search;
 use sets::Set128;
 use sets::Set256;
+use tables::Found;
 use tables::load128;
 use tables::load256;
+use tables::search;
 use tables::store128;
 
 // The own roles met so far: those that are some user's row, and one such user for each of them.

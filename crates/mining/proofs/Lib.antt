@@ -1,6 +1,3 @@
-pub mod Rows
-pub mod Halving
-pub mod Moving
 pub mod Placing
 pub mod Meeting
 pub mod Seeing

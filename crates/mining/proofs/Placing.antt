@@ -10,7 +10,8 @@ use Rattle.model.specs.Candidates.{place, Listed, Growing}
 use Rattle.model.specs.Lists.{rowsAt}
 use Rattle.model.proofs.Lists.{length-rowsAt}
 use Rattle.model.proofs.Growing.{place-listed, placed, placed-length}
-use Rattle.mining.specs.Mining.{Between, Inserts, Framed, Holds}
+use Rattle.tables.specs.Search.{Between, Inserts}
+use Rattle.mining.specs.Mining.{Framed, Holds}
 
 -- a table holds its own sets, and any list that is equal to theirs
 pub holds-equal : {t : List ℕ} {n : ℕ} (xs : List ℕ) → Framed t n → rowsAt n t 0 ≡ xs → Holds t n xs

@@ -12,7 +12,7 @@ use Rattle.model.specs.Lists.{setAt, rowsAt}
 use Rattle.model.proofs.Lists.{length-rowsAt}
 use Rattle.model.proofs.Growing.{listed-at, place-new, place-old}
 use Rattle.mining.specs.Mining.{Framed, Holds, Seen, Known}
-use Rattle.mining.proofs.Rows.{row-at}
+use Rattle.tables.proofs.Rows.{row-at}
 use Rattle.mining.proofs.Placing.{holds-equal}
 use Rattle.mining.proofs.Meeting.{Walked, walked-known, walked-placed, walked-full, walked-all, add-placed}
 use Rattle.mining.proofs.Seeing.{known-listed, seen-among}

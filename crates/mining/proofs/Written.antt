@@ -12,7 +12,7 @@ use Rattle.model.specs.Lists.{tabulate, elems, setAt, rowsAt}
 use Rattle.model.specs.Record.{regionWord}
 use Rattle.model.proofs.Lists.{tabulate-is, length-elems, getD-elems, length-rowsAt}
 use Rattle.mining.specs.Mining.{Holds, Written}
-use Rattle.mining.proofs.Rows.{row-at}
+use Rattle.tables.proofs.Rows.{row-at}
 
 elems-words : (t : List ℕ) → Words t → (at n : ℕ) → Words (elems t at n)
 elems-words t f at n i =

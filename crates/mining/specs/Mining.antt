@@ -3,34 +3,16 @@
 use mathlib.Core.Path.{_≡_}
 use mathlib.Core.Bool.{Bool, true, false}
 use mathlib.Core.Logic.{_≢_, _⊎_}
-use mathlib.Core.List.{List, _∷_, _++_}
+use mathlib.Core.List.{List}
 use Prim.Native.Nat.{ℕ, _+_, _*_, _≤_, _<_}
-use lib.ListN.{length, getD, take, drop}
+use lib.ListN.{length, getD}
 use Rattle.sets.specs.Words.{word}
 use Rattle.model.specs.Candidates.{Listed}
 use Rattle.model.specs.Lists.{setAt, rowsAt}
-use Rattle.mining.specs.declared.Found.{Found}
-use Rattle.mining.specs.declared.Found.the-variants.{At, Missing}
 use Rattle.mining.specs.declared.Admitted.{Admitted}
 use Rattle.mining.specs.declared.Admitted.the-variants as admitted
 use Rattle.mining.specs.declared.Mined.{Mined}
 use Rattle.mining.specs.declared.Mined.the-variants as mined
-
--- place i of n growing sets is where x belongs, which is not one of them
-pub record Between (n : ℕ) (xs : List ℕ) (x i : ℕ) : Type 0 where
-  pub within : i ≤ n
-  pub before : (j : ℕ) → j < i → getD xs j 0 < x
-  pub after : (j : ℕ) → i ≤ j → j < n → x < getD xs j 0
-
--- x looked for among n growing sets
-abbrev pub Finds : ℕ → List ℕ → ℕ → Found → Type 0
-Finds n xs x (At i) = (i < n) × (getD xs i 0 ≡ x)
-Finds n xs x (Missing i) = Between n xs x i
-
--- x put at place i of a table's n sets, and the sets from there on one place higher
-pub record Inserts (n i x : ℕ) (t t' : List ℕ) : Type 0 where
-  pub rows : rowsAt (n + 1) t' 0 ≡ take i (rowsAt n t 0) ++ (x ∷ drop i (rowsAt n t 0))
-  pub rest : (w : ℕ) → 4 * (n + 1) ≤ w → getD t' w 0 ≡ getD t w 0
 
 -- a table of 512 words with k sets: there are at most 128, and zeros follow them
 pub record Framed (t : List ℕ) (k : ℕ) : Type 0 where

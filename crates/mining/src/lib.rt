@@ -9,21 +9,18 @@ ghost use lib.ListN.{length, getD};
 ghost use Rattle.sets.specs.Held.{set256};
 ghost use Rattle.model.specs.Candidates.{place, addRow, candidates, Listed, Growing, Table};
 ghost use Rattle.model.specs.Lists.{rowsAt};
-ghost use Rattle.mining.specs.Mining.{Finds, Between, Inserts, Framed, Admits, Seen, Adds, Mines};
+ghost use Rattle.tables.specs.Search.{Between};
+ghost use Rattle.mining.specs.Mining.{Framed, Admits, Seen, Adds, Mines};
 use seen::is_known;
 use seen::remember;
 use sets::Set256;
+use tables::Found;
+use tables::insert;
 use tables::load256;
-use tables::store256;
+use tables::search;
 
 // The most sets that a table has room for.
 const LIMIT: usize = 128;
-
-// The place of a set in a table, or the place where it belongs.
-pub enum Found {
-    At(usize),
-    Missing(usize),
-}
 
 // How many sets a table has now; or that there is no room for another.
 pub enum Admitted {
@@ -35,42 +32,6 @@ pub enum Admitted {
 pub enum Mined {
     Count(usize),
     TooMany,
-}
-
-// Looks for x among the first n sets, which grow. Each turn halves what is left: 8 turns at most for 128 sets, 7 for fewer.
-pub fn search(table: &[u64], n: usize, x: Set256) -> Found
-    requires { ⌜ (4 * n ≤ length (now table)) × Growing (rowsAt n (now table) 0) ⌝ }
-    ensures { λ r. ⌜ Finds n (rowsAt n (now (table .entry)) 0) (set256 x) r ⌝ }
-{
-    let mut low = 0;
-    let mut high = n;
-    while low < high {
-        let middle = low + (high - low) / 2;
-        let y = load256(table, 4 * middle);
-        if y.equals(x) {
-            return Found::At(middle);
-        }
-        if y.less(x) {
-            low = middle + 1;
-        } else {
-            high = middle;
-        }
-    }
-    Found::Missing(low)
-}
-
-// Moves the sets from place `at` on up by one place, the last word first, and puts x at `at`.
-fn insert(table: &mut [u64], n: usize, at: usize, x: Set256)
-    requires { ⌜ (at ≤ n) × (4 * (n + 1) ≤ length (now table)) ⌝ }
-    ensures { λ r. ⌜ Inserts n at (set256 x) (now (table .entry)) (now (table .exit)) ⌝ }
-{
-    let end = 4 * at + 4;
-    let mut i = 4 * n + 4;
-    while end < i {
-        i -= 1;
-        table[i] = table[i - 4];
-    }
-    store256(table, i - 4, x);
 }
 
 // Puts x, which the table lacks, at its place.

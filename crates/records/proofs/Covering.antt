@@ -4,22 +4,20 @@ use mathlib.Core.Path.{_≡_, refl, sym, _∙_, ap, ap₂, subst}
 use mathlib.Core.Bool.{Bool, So}
 use mathlib.Core.Logic.{_↔_, _⊎_, ⊎-elim}
 use mathlib.Core.List.{List}
-use Prim.Native.Nat.{ℕ, _+_, _*_, _^_, _≤_, _<_}
+use Prim.Native.Nat.{ℕ, _*_, _^_, _≤_, _<_}
 use native.Mathlib.Nat.{lt-of-lt-of-le}
-use native.Mathlib.Omega.{arith}
-use lib.Dec.{eqb, ltb}
+use lib.Dec.{eqb}
 use lib.ListN.{getD}
 use Rattle.sets.specs.Truth.{_and_, _implies_, all}
-use Rattle.sets.specs.Sets.{has, _∩_, subset, collect}
-use Rattle.sets.proofs.Truth.{same-test, So-not, all-same, and-iff, implies-iff, all-iff, eqb-iff, ltb-iff, find, not-So}
-use Rattle.sets.proofs.Items.{has-zero, item-below, empty-of, below-of-items}
-use Rattle.sets.proofs.Order.{∩-iff, ∩-lt, subset-iff, collect-iff}
-use Rattle.model.specs.Lists.{setAt, rowsAt}
+use Rattle.sets.specs.Sets.{has, _∩_}
+use Rattle.sets.proofs.Truth.{same-test, So-not, and-iff, implies-iff, all-iff, eqb-iff, find}
+use Rattle.sets.proofs.Items.{has-zero, item-below, empty-of}
+use Rattle.sets.proofs.Order.{∩-iff, ∩-lt, subset-iff}
+use Rattle.model.specs.Lists.{setAt}
 use Rattle.model.specs.Hierarchy.{candidateCount, permissionSet}
 use Rattle.model.specs.Coverage.{grant, covered, allCovered}
 use Rattle.model.specs.Indexes.{lower, maximal, rolesOfUser}
-use Rattle.model.specs.State.{State, rolesOf, rowsWithin}
-use Rattle.model.proofs.Lists.{length-rowsAt, getD-rowsAt}
+use Rattle.model.specs.State.{State, rolesOf}
 use Rattle.model.proofs.Reading.{covered-iff, covers-iff}
 use Rattle.model.proofs.Shortcuts.{maximal-iff, rolesOfUser-iff, maximal-above}
 use Rattle.hierarchy.specs.Tables.{lessAll}
@@ -29,29 +27,6 @@ use Rattle.indexes.proofs.Sources.{numbered, source-set, source-count}
 use Rattle.records.specs.Records.{userRoles, userCovered}
 
 -- ---- rows
-
--- within the first m items is below 2 ^ m
-pub within-below : (x m : ℕ) → m ≤ 256 → subset x (collect 256 (λ i. ltb i m)) ≡ ltb x (2 ^ m)
-within-below x m l =
-    same-test (subset x (collect 256 (λ i. ltb i m))) (ltb x (2 ^ m))
-    (λ h.
-    ltb-iff x (2 ^ m) .1
-    (below-of-items m x
-    (λ i b.
-    not-So (has x i)
-    (λ t.
-    let a = ltb-iff i m .0 (collect-iff 256 (λ i. ltb i m) i .0 (subset-iff x (collect 256 (λ i. ltb i m)) .0 h i t) .1) in
-    let z : ⊥ = omega arith in z))))
-    (λ h.
-    subset-iff x (collect 256 (λ i. ltb i m)) .1
-    (λ i t. let b = item-below m x i (ltb-iff x (2 ^ m) .0 h) t in collect-iff 256 (λ i. ltb i m) i .1 (omega arith, ltb-iff i m .1 b)))
-
-pub rows-test : (crew : List ℕ) (at n m : ℕ) → rowsWithin m (rowsAt n crew at) ≡ all n (λ u. ltb (setAt 4 crew (at + 4 * u)) (2 ^ m))
-unfolding rowsWithin
-rows-test crew at n m =
-    rw (length-rowsAt n crew at)
-    (all-same n (λ u. ltb (getD (rowsAt n crew at) u 0) (2 ^ m)) (λ u. ltb (setAt 4 crew (at + 4 * u)) (2 ^ m))
-    (λ u l. ap (λ (x : ℕ). ltb x (2 ^ m)) (getD-rowsAt n crew at u l)))
 
 -- ---- coverage
 
@@ -120,10 +95,6 @@ module _ (st : State) (crew : List ℕ) (at n : ℕ) (table : List ℕ) (c : ℕ
 
       few : (c' : ℕ) → c ≤ 128
       few _ = rw source-count' at (src .limits .candidates-most)
-
--- what the test of a row tells
-pub row-tested : (t : Bool) (x y s m : ℕ) → m ≤ 256 → t ≡ subset x s → x ≡ y → s ≡ collect 256 (λ i. ltb i m) → t ≡ ltb y (2 ^ m)
-row-tested t x y s m l et ex es = et ∙ ap₂ subset ex es ∙ within-below y m l
 
 pub users-counted : (st : State) (crew : List ℕ) (at n : ℕ) (table : List ℕ) (c : ℕ) → Source st crew at n table c
     → allCovered (rolesOf st) (st .standing) ≡ all n (userCovered st)

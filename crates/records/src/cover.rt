@@ -15,22 +15,6 @@ use sets::Set256;
 use tables::load128;
 use tables::load256;
 
-// Whether no row of the n users has a permission at m or above.
-pub fn rows_within(crew: &[u64], at: usize, n: usize, m: usize) -> bool
-    requires { ⌜ (at + 4 * n ≤ length (now crew)) × (m ≤ 256) ⌝ }
-    ensures { λ r. ⌜ r ≡ rowsWithin m (rowsAt n (now (crew .entry)) at) ⌝ }
-{
-    let inside = Set256::below(m);
-    let mut u = 0;
-    while u < n {
-        if !load256(crew, at + 4 * u).is_subset(inside) {
-            return false;
-        }
-        u += 1;
-    }
-    true
-}
-
 // Whether the standing roles of a user hold all of the user's row. The highest of them hold all that those below them do.
 fn user_covered(table: &[u64], low: &[u64], roles: Set128, row: Set256) -> bool
     requires { ⌜ (length (now table) ≡ 512) × (length (now low) ≡ 256) ⌝ }

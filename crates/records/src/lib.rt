@@ -8,7 +8,6 @@ mod write;
 pub use check::is_sound;
 pub use check::pad;
 pub use cover::all_covered;
-pub use cover::rows_within;
 pub use fresh::write_fresh;
 pub use sound::record_sound;
 pub use write::write_record;

@@ -2,3 +2,6 @@ pub mod Within
 pub mod Stores
 pub mod Tables
 pub mod Parts
+pub mod Rows
+pub mod Halving
+pub mod Moving

@@ -1,4 +1,6 @@
-// A slice of words as a table of sets: reading and writing a set at a place, copying and comparing a region.
+// A slice of words as a table of sets: a set at a place read and written, a region copied and compared, a growing table searched; the layout of a record, and
+// the limits of a crew list.
+mod growing;
 mod layout;
 mod limits;
 
@@ -11,6 +13,9 @@ ghost use Rattle.sets.specs.Truth.{all};
 ghost use Rattle.model.specs.Lists.{setAt};
 ghost use Rattle.stores.specs.Stores.{putAt};
 ghost use Rattle.tables.specs.Stores.{wordsOf};
+pub use growing::Found;
+pub use growing::insert;
+pub use growing::search;
 pub use layout::CREW;
 pub use layout::JUNIORS;
 pub use layout::LENGTH;
@@ -19,6 +24,7 @@ pub use layout::PERMISSIONS;
 pub use layout::SETS;
 pub use layout::STANDING;
 pub use limits::limits_kept;
+pub use limits::rows_within;
 use sets::Set128;
 use sets::Set256;
 

@@ -6,7 +6,7 @@ use mathlib.Core.Logic.{_⊎_}
 use native.Mathlib.Omega.{arith}
 use Rattle.sets.specs.Held.{set256}
 use Rattle.sets.proofs.Truth.{equal-or}
-use Rattle.mining.specs.Mining.{Finds}
+use Rattle.tables.specs.Search.{Finds}
 use Rattle.indexes.proofs.Sources.{own-none, own-missing, own-role, own-found}
 use Rattle.indexes.proofs.Owning.{own-more}
 use Rattle.indexes.proofs.own.own_roles.Statement.{statement}

@@ -10,9 +10,9 @@ use borrow.Author.Tests.{not-true, not-false}
 use Rattle.sets.specs.Truth.{all}
 use Rattle.sets.proofs.Truth.{So-not, all-of, all-more, all-fails, all-through}
 use Rattle.model.specs.Lists.{setAt}
-use Rattle.records.proofs.Covering.{row-tested, rows-test}
-use Rattle.records.proofs.cover.rows_within.Statement.{statement}
-use Rattle.records.proofs.cover.rows_within.Tie as tie
+use Rattle.tables.proofs.Within.{row-tested, rows-test}
+use Rattle.tables.proofs.limits.rows_within.Statement.{statement}
+use Rattle.tables.proofs.limits.rows_within.Tie as tie
 
 abbrev Inv-loop : tie.InvT-loop
 Inv-loop crew at n m inside u₀ u = (u ≤ n) × So (all u (λ i. ltb (setAt 4 crew (at + 4 * i)) (2 ^ m)))

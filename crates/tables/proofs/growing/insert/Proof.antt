@@ -4,9 +4,9 @@ use Prim.Native.Nat.{_^_, _<_}
 use borrow.Author.Needs.{needs}
 use Rattle.sets.specs.Held.{set256}
 use Rattle.sets.proofs.Written.{words, held256}
-use Rattle.mining.proofs.Moving.{Moved, moved-none, moved-more, inserted}
-use Rattle.mining.proofs.insert.Statement.{statement}
-use Rattle.mining.proofs.insert.Tie as tie
+use Rattle.tables.proofs.Moving.{Moved, moved-none, moved-more, inserted}
+use Rattle.tables.proofs.growing.insert.Statement.{statement}
+use Rattle.tables.proofs.growing.insert.Tie as tie
 
 abbrev Inv-loop : tie.InvT-loop
 Inv-loop table₀ n at x end i₀ table i = Moved table₀ n at table i

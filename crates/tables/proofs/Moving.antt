@@ -11,11 +11,11 @@ use Rattle.sets.proofs.Truth.{either, equal-or}
 use Rattle.model.specs.Lists.{setAt, rowsAt}
 use Rattle.model.proofs.Lists.{length-rowsAt, setAt-same}
 use Rattle.stores.specs.Stores.{putAt}
 use Rattle.tables.specs.Stores.{wordsOf}
 use Rattle.stores.proofs.Stores.{putAt-above}
 use Rattle.tables.proofs.Stores.{length-wordsOf, stored-back, stored-before, stored-after}
-use Rattle.mining.specs.Mining.{Inserts}
-use Rattle.mining.proofs.Rows.{row-at, rows-are, spliced-length, spliced-before, spliced-at, spliced-after}
+use Rattle.tables.specs.Search.{Inserts}
+use Rattle.tables.proofs.Rows.{row-at, rows-are, spliced-length, spliced-before, spliced-at, spliced-after}
 
 -- of the words of the sets from place `at` to place n, those that go to places from i on have been moved up by one set
 pub record Moved (t₀ : List ℕ) (n at : ℕ) (t : List ℕ) (i : ℕ) : Type 0 where

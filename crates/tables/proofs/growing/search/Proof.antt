@@ -6,9 +6,9 @@ use native.Mathlib.Omega.{arith}
 use borrow.Author.Needs.{needs}
 use Rattle.sets.specs.Held.{set256}
 use Rattle.model.specs.Lists.{rowsAt}
-use Rattle.mining.proofs.Halving.{Halved, halved-none, halved-all, found-there, halved-up, halved-down}
-use Rattle.mining.proofs.search.Statement.{statement}
-use Rattle.mining.proofs.search.Tie as tie
+use Rattle.tables.proofs.Halving.{Halved, halved-none, halved-all, found-there, halved-up, halved-down}
+use Rattle.tables.proofs.growing.search.Statement.{statement}
+use Rattle.tables.proofs.growing.search.Tie as tie
 
 abbrev Inv-loop : tie.InvT-loop
 Inv-loop table n x low₀ high₀ low high = Halved n (rowsAt n table 0) (set256 x) low high

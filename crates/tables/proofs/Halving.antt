@@ -14,8 +14,8 @@ use Rattle.model.specs.Lists.{setAt, rowsAt}
 use Rattle.model.proofs.Lists.{length-rowsAt}
 use Rattle.model.specs.Candidates.{Growing}
 use Rattle.model.proofs.Growing.{growing-after}
-use Rattle.mining.specs.Mining.{Between}
-use Rattle.mining.proofs.Rows.{row-at}
+use Rattle.tables.specs.Search.{Between}
+use Rattle.tables.proofs.Rows.{row-at}
 
 -- the place of x lies between low and high
 pub record Halved (n : ℕ) (xs : List ℕ) (x low high : ℕ) : Type 0 where
