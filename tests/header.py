@@ -28,6 +28,9 @@ CONSTANTS = {"PANEL_RECORD_WORDS": ("tables/src/layout.rt", "LENGTH"), "PANEL_AT
              "PANEL_AT_JUNIORS": ("tables/src/layout.rt", "JUNIORS"),
              "PANEL_ROWS_WORDS": ("text_crew/src/lib.rt", "BUFFER"),
              "PANEL_TEXT_BYTES": ("text_crew/src/lib.rt", "LONGEST")}
+REFUSALS = "refusals/src/lib.rt"
+CONSTANTS.update({"PANEL_" + name: (REFUSALS, "REFUSED_" + name)
+                  for name in ("LENGTH", "LIMITS", "CREW", "CANDIDATES", "UNSOUND", "NUMBER", "STANDING", "BARE", "RANGE", "TEXT")})
 
 
 def c_name(struct):
@@ -104,9 +107,12 @@ def differences(crate, header):
                     yield "%s has %s, in the header %s" % (name, told(a), told(b))
     for name, (file, constant) in CONSTANTS.items():
         source = (ROOT / "crates" / file).read_text(encoding="utf-8")
-        value = int(re.search(r"const %s: usize = (\d+);" % constant, source)[1])
+        value = int(re.search(r"const %s: (?:usize|u64) = (\d+);" % constant, source)[1])
         if header[2].get(name) != value:
             yield "%s of %s is %d, in the header %s is %s" % (constant, file, value, name, header[2].get(name))
+    for constant in re.findall(r"const (\w+): u64", (ROOT / "crates" / REFUSALS).read_text(encoding="utf-8")):
+        if (REFUSALS, constant) not in CONSTANTS.values():
+            yield "%s of %s is not in the header" % (constant, REFUSALS)
 
 
 def demanded(calls, structs):

@@ -7,7 +7,7 @@ use mathlib.Core.List.{List}
 use Prim.Native.Nat.{ℕ, _*_, _^_, _≤_, _<_}
 use native.Mathlib.Nat.{lt-of-lt-of-le}
 use lib.Dec.{eqb}
-use lib.ListN.{getD}
+use lib.ListN.{getD, take, drop}
 use Rattle.sets.specs.Truth.{_and_, _implies_, all}
 use Rattle.sets.specs.Sets.{has, _∩_}
 use Rattle.sets.proofs.Truth.{same-test, So-not, and-iff, implies-iff, all-iff, eqb-iff, find}
@@ -22,7 +22,8 @@ use Rattle.model.proofs.Reading.{covered-iff, covers-iff}
 use Rattle.model.proofs.Shortcuts.{maximal-iff, rolesOfUser-iff, maximal-above}
 use Rattle.hierarchy.specs.Tables.{lessAll}
 use Rattle.hierarchy.proofs.Sieving.{lessAll-iff}
-use Rattle.indexes.specs.Tables.{Source, Indexed}
+use Rattle.indexes.specs.Index.{rolesStart, Indexed}
+use Rattle.indexes.specs.Tables.{Source}
 use Rattle.indexes.proofs.Sources.{numbered, source-set, source-count}
 use Rattle.records.specs.Records.{userRoles, userCovered}
 
@@ -100,8 +101,7 @@ pub users-counted : (st : State) (crew : List ℕ) (at n : ℕ) (table : List �
     → allCovered (rolesOf st) (st .standing) ≡ all n (userCovered st)
 users-counted st crew at n table c src = users-test st ∙ ap (λ (k : ℕ). all k (userCovered st)) (src .users)
 
-pub own-roles-are : (st : State) (crew : List ℕ) (at n : ℕ) (table : List ℕ) (c : ℕ) → Source st crew at n table c
-    → (low roles users : List ℕ) → Indexed st low roles users → (u x s r : ℕ) → u < n → x ≡ setAt 2 roles (2 * u) → s ≡ x ∩ r → st .standing ≡ r → s ≡ userRoles st u
-unfolding userRoles
-own-roles-are st crew at n table c src low roles users ix u x s r lu ex es er =
-    es ∙ ap₂ _∩_ (ex ∙ ix .user-roles u (rw (src .users) lu)) (sym er)
+pub own-roles-are : (st : State) (n : ℕ) → st .users ≡ n → (index : List ℕ) → Indexed (rolesOf st) index
+    → (u x s r : ℕ) → u < n → x ≡ setAt 2 (take 256 (drop rolesStart index)) (2 * u) → s ≡ x ∩ r → r ≡ st .standing → s ≡ userRoles st u
+unfolding userRoles rolesOf
+own-roles-are st n users index ix u x s r lu ex es er = es ∙ ap₂ _∩_ (ex ∙ ix .user-roles u (rw users lu)) er

@@ -1,4 +1,3 @@
+pub mod Beginning
 pub mod Covering
-pub mod Writing
-pub mod Comparing
 pub mod Judging

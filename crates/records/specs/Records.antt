@@ -1,27 +1,36 @@
--- What the functions over whole records ask of their tables, and one user's part of coverage.
+-- What the functions over whole records are given, and one user's part of coverage.
 -- Assumes nothing.
 use mathlib.Core.Path.{_≡_}
 use mathlib.Core.Bool.{Bool}
+use mathlib.Core.Logic.{_⊎_}
 use mathlib.Core.List.{List}
-use Prim.Native.Nat.{ℕ, _+_, _*_, _<_}
-use lib.ListN.{getD}
+use Prim.Native.Nat.{ℕ, _≤_, _<_}
+use lib.ListN.{length, getD}
 use Rattle.sets.specs.Truth.{_implies_, all}
 use Rattle.sets.specs.Sets.{_∩_}
-use Rattle.sets.specs.Words.{word}
-use Rattle.model.specs.Hierarchy.{candidateCount, permissionSet}
+use Rattle.model.specs.Lists.{rowsAt}
+use Rattle.model.specs.Candidates.{candidates}
 use Rattle.model.specs.Coverage.{grant, covered}
+use Rattle.model.specs.Hierarchy.{candidateCount}
 use Rattle.model.specs.Indexes.{rolesOfUser}
+use Rattle.model.specs.Record.{recordLength, setsStart, permissionsStart, Limits}
 use Rattle.model.specs.State.{State, rolesOf}
-use Rattle.model.specs.Record.{Limits}
-use Rattle.indexes.specs.Tables.{Source}
+use Rattle.rows.specs.Partway.{Region}
 
--- a state's crew rows and candidates, word by word, each with zeros after them
-pub record Padded (st : State) (n : ℕ) (crew : List ℕ) (c : ℕ) (table : List ℕ) : Type 0 where
+-- a record with nothing in it but the candidates xs
+pub record OnlyCandidates (ws xs : List ℕ) : Type 0 where
+  pub size : length ws ≡ recordLength
+  pub sets : Region 4 setsStart (λ k. getD xs k 0) ws
+  pub rest : (i : ℕ) → (i < setsStart) ⊎ (permissionsStart ≤ i) → getD ws i 0 ≡ 0
+
+-- a state within the limits whose crew rows are the n rows from place `at` on, with m permissions, c candidates and the standing set r
+pub record Described (st : State) (crew : List ℕ) (at n m c r : ℕ) : Type 0 where
   pub limits : Limits st
   pub users : st .users ≡ n
+  pub permissions : st .permissions ≡ m
+  pub rows : st .rows ≡ rowsAt n crew at
   pub count : candidateCount (rolesOf st) ≡ c
-  pub crew-words : (u j : ℕ) → u < 128 → j < 4 → getD crew (4 * u + j) 0 ≡ word (getD (st .rows) u 0) j
-  pub set-words : (k j : ℕ) → k < 128 → j < 4 → getD table (4 * k + j) 0 ≡ word (permissionSet (rolesOf st) k) j
+  pub standing : st .standing ≡ r
 
 -- the standing roles that hold a user
 unfoldable pub userRoles : State → ℕ → ℕ
@@ -30,8 +39,3 @@ userRoles st u = rolesOfUser (rolesOf st) u ∩ st .standing
 -- each grant of one user is covered
 unfoldable pub userCovered : State → ℕ → Bool
 userCovered st u = all (st .permissions) (λ p. grant (rolesOf st) u p implies covered (rolesOf st) (st .standing) u p)
-
--- the state's crew rows stand from place `at` on, and its candidates are the sets of a table, with zeros after them
-pub record Tabled (st : State) (crew : List ℕ) (at n : ℕ) (table : List ℕ) (c : ℕ) : Type 0 where
-  pub source : Source st crew at n table c
-  pub set-words : (k j : ℕ) → k < 128 → j < 4 → getD table (4 * k + j) 0 ≡ word (permissionSet (rolesOf st) k) j

@@ -1,10 +1,13 @@
--- The rows, word by word, and zeros after them.
+-- The header, then the rows.
 -- Assumes nothing.
 use borrow.Author.Needs.{needs}
 use mathlib.Core.Path.{refl}
-use Rattle.records.proofs.Judging.{padded}
-use Rattle.records.proofs.check.pad.Statement.{statement}
-use Rattle.records.proofs.check.pad.Tie as tie
+use Rattle.records.proofs.Beginning.{begun}
+use Rattle.records.proofs.begin.begin_record.Statement.{statement}
+use Rattle.records.proofs.begin.begin_record.Tie as tie
+
+write-header-requires : tie.Need-write-header-requires
+write-header-requires c κs = search needs
 
 mul-copy : tie.Need-mul-copy
 mul-copy c = search needs
@@ -31,13 +34,15 @@ same-length : tie.Need-same-length
 same-length c = search needs
 
 returns : tie.Need-returns
-returns c =
-    padded _ _ _ _ _ _ refl (c .before .before .before .before .before .before .before .pre .0) (c .before .before .before .before .before .before .before .pre .1) (c .before .before .before .before .before .before .before .pre .2) (λ i. c .before .before .before .before .before .before .shared-slice-known .given i .fits) (c .before .before .copy .ensures)
+returns c = λ st d o.
+    rw (c .before .before .copy .ensures, c .before .before .before .before .before .before .before .write-header .ensures)
+    (begun st _ _ _ _ _ _ _ _ d o refl (search needs) (λ i. c .before .before .before .before .before .before .before .before .before .shared-slice-known .given i .fits))
 
-pub pad-spec : {M : Type 1} → statement M
-pad-spec =
+pub begin-record-spec : {M : Type 1} → statement M
+begin-record-spec =
     tie.close
     (tie.spec
+    write-header-requires
     mul-copy
     add-copy
     mul-copy-2

@@ -3,9 +3,9 @@
 use borrow.Author.Needs.{needs}
 use native.Mathlib.Omega.{arith}
 use lib.ListN.{length-set}
-use Rattle.records.proofs.Writing.{stored8}
-use Rattle.records.proofs.write.write_header.Statement.{statement}
-use Rattle.records.proofs.write.write_header.Tie as tie
+use Rattle.records.proofs.Beginning.{stored8}
+use Rattle.records.proofs.begin.write_header.Statement.{statement}
+use Rattle.records.proofs.begin.write_header.Tie as tie
 
 slice-write-rec : tie.Need-slice-write-rec
 slice-write-rec c = search needs
