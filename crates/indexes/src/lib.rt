@@ -10,4 +10,3 @@ pub use layout::LOWER;
 pub use layout::ROLES;
 pub use layout::USERS;
 pub use state::fill_indexes;
-pub use state::fill_rows;
