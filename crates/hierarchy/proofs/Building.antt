@@ -10,7 +10,7 @@ use borrow.Author.Tests.{not-true, not-false}
 use Rattle.sets.specs.Sets.{has, _∩_, collect}
 use Rattle.sets.proofs.Truth.{So-not}
 use Rattle.sets.proofs.Items.{same-set, item-below}
-use Rattle.sets.proofs.Order.{collect-iff, collect-same, ∩-lt}
+use Rattle.sets.proofs.Order.{collect-iff, ∩-lt}
 use Rattle.model.specs.Lists.{setAt}
 use Rattle.model.specs.Hierarchy.{Roles, candidateCount, permissionSet, authorisedUsers, immediateJuniors, directPermissions, directMembers}
 use Rattle.model.specs.Indexes.{lower, maximal}
@@ -95,8 +95,3 @@ members-found ρ R k x is users n w h b t ex ei =
       λ i l q z.
           let d = senior-iff i .0 q in a .1 i (d .0) (d .1) (rw (h i (d .0)) at z),
     ))
-
--- the immediate seniors of k, read down a column of the juniors
-pub seniors-same : (ρ : Roles) (R k c : ℕ) (juniors : List ℕ) → candidateCount ρ ≡ c → Holds 2 c (immediateJuniors ρ R) juniors
-    → collect c (λ i. has (setAt 2 juniors (2 * i)) k) ≡ collect (candidateCount ρ) (λ i. has (immediateJuniors ρ R i) k)
-seniors-same ρ R k c juniors e h = rw e (collect-same c (λ i. has (setAt 2 juniors (2 * i)) k) (λ i. has (immediateJuniors ρ R i) k) (λ i l. ap (λ (x : ℕ). has x k) (h i l)))

@@ -1,3 +1,4 @@
 pub mod Extremes
 pub mod Sieving
 pub mod Building
+pub mod Seeking

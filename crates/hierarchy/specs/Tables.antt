@@ -15,7 +15,7 @@ pub record Numbered (ρ : Roles) : Type 0 where
   pub lower : (j k : ℕ) → j < candidateCount ρ → k < candidateCount ρ → So (properSubset (permissionSet ρ j) (permissionSet ρ k)) → j < k
   pub distinct : (j k : ℕ) → j < candidateCount ρ → k < candidateCount ρ → permissionSet ρ j ≡ permissionSet ρ k → j ≡ k
 
--- the candidates' sets lie within m permissions, m at most 256, and there are at most 128 persons
+-- the candidates' sets lie within m permissions, m at most 256, and there are at most 128 users
 pub record Narrow (ρ : Roles) : Type 0 where
   pub fewUsers : ρ .users ≤ 128
   pub fewPermissions : ρ .permissions ≤ 256

@@ -1,19 +1,17 @@
 // The rows of the roles, from tables of sets lent as slices: 4 words to a set of permissions, 2 to a set of roles or users.
-mod fill;
 mod items;
 mod lower;
 mod rows;
+mod seniors;
 mod sieve;
 
-pub use fill::fill_juniors;
-pub use fill::fill_members;
-pub use fill::fill_permissions;
 pub use items::highest_item;
 pub use items::lowest_item;
 pub use lower::lower_of;
 pub use rows::juniors_of;
 pub use rows::members_of;
 pub use rows::permissions_of;
+pub use seniors::seniors_of;
 pub use sieve::less128;
 pub use sieve::less256;
 pub use sieve::maximal_of;

@@ -1,0 +1,5 @@
+pub mod Regions
+pub mod Partway
+pub mod Linking
+pub mod Rewriting
+pub mod Building

@@ -1,0 +1,98 @@
+-- What one turn of each loop stores, and what it leaves of the immediate juniors.
+-- Assumes nothing.
+use mathlib.Core.Path.{_≡_, refl, sym, _∙_, ap, subst}
+use mathlib.Core.Logic.{_≢_}
+use mathlib.Core.List.{List}
+use Prim.Native.Nat.{ℕ, _+_, _*_, _^_, _<_}
+use native.Mathlib.Nat.{lt-of-lt-of-le}
+use lib.ListN.{length, take, drop}
+use lib.Pow.{pow-mono}
+use Rattle.sets.specs.Sets.{has, _∖_, single, collect}
+use Rattle.sets.specs.Words.{word}
+use Rattle.model.specs.Lists.{setAt}
+use Rattle.model.specs.Hierarchy.{Roles, Rows, candidateCount, permissionSet, immediateJuniors, directPermissions, directMembers}
+use Rattle.model.specs.Record.{setsStart, permissionsStart, membersStart, juniorsStart}
+use Rattle.model.specs.State.{State, rolesOf}
+use Rattle.model.proofs.Lists.{setAt-same}
+use Rattle.model.proofs.Record.{juniors-small}
+use Rattle.stores.specs.Stores.{putAt}
+use Rattle.tables.specs.Stores.{wordsOf}
+use Rattle.tables.specs.Tables.{Holds}
+use Rattle.hierarchy.specs.Tables.{Numbered, Narrow}
+use Rattle.indexes.specs.Index.{LowerRoles, RoleUsers}
+use Rattle.indexes.proofs.Sources.{numbered, narrow}
+use Rattle.rows.specs.Linked.{Turned, juniorsIn, Linked}
+use Rattle.rows.specs.Partway.{still, Partway, Target}
+use Rattle.rows.proofs.Regions.{still-other, still-none, region-holds, region-read}
+use Rattle.rows.proofs.Partway.{juniors-stored, permissions-stored, members-stored}
+use Rattle.rows.proofs.Linking.{linked-same, seniors-held}
+
+module _ (old : Rows) (st : State) (p t R : ℕ) (index ws : List ℕ) (to : Target st R index) where
+  abbrev ρ : Roles
+  ρ = rolesOf st
+
+  pub standing-below : R < 2 ^ candidateCount (rolesOf st)
+  standing-below = subst (λ (S : ℕ). S < 2 ^ candidateCount (rolesOf st)) (to .standing) (to .limits .standing-below)
+
+  pub upper-rewritten : (s i js ps : ℕ) (mid after : List ℕ) → i < 128
+      → ((ρ : Roles) → Numbered ρ → LowerRoles ρ index → R < 2 ^ candidateCount ρ → js ≡ immediateJuniors ρ R i)
+      → ((ρ : Roles) → Numbered ρ → Narrow ρ → Holds 4 (candidateCount ρ) (permissionSet ρ) (take 512 (drop setsStart ws)) → R < 2 ^ candidateCount ρ → js ≡ immediateJuniors ρ R i → ps ≡ directPermissions ρ R i)
+      → mid ≡ putAt ws (juniorsStart + 2 * i) (wordsOf 2 js) → after ≡ putAt mid (permissionsStart + 4 * i) (wordsOf 4 ps)
+      → Partway old st s p t ws → Partway old st (s ∖ single i) (p ∖ single i) t after
+  upper-rewritten s i js ps mid after li juniors permissions em ea q =
+      let n = numbered st (to .limits) in
+      let w = narrow st (to .limits) in
+      let same = sym (to .standing) in
+      let ej = juniors ρ n (to .indexed .lower-roles) standing-below in
+      let sets = region-holds 4 setsStart (candidateCount ρ) 512 (permissionSet ρ) ws refl (n .few)
+      (λ k l. lt-of-lt-of-le (w .inside k l) (pow-mono (w .fewPermissions))) (q .headed .sets) in
+      let ep = permissions ρ n w sets standing-below ej in
+      let first : Partway old st (s ∖ single i) p t mid = rw em (juniors-stored old st s p t i js ws li q (ej ∙ ap (λ (S : ℕ). immediateJuniors ρ S i) same)) in
+      rw ea (permissions-stored old st (s ∖ single i) p t i ps mid li first (ep ∙ ap (λ (S : ℕ). directPermissions ρ S i) same))
+
+  -- once no role has its old juniors, the record holds those of the standing set
+  pub now-juniors : Partway old st 0 p t ws → (i : ℕ) → i < 128 → juniorsIn ws i ≡ immediateJuniors (rolesOf st) R i
+  now-juniors q i li =
+      let new = immediateJuniors ρ (st .standing) in
+      region-read 2 juniorsStart i new ws li (juniors-small st (to .limits) i)
+      (λ k j lk lj. q .juniors k j lk lj ∙ ap (λ (x : ℕ). word x j) (still-none (old .juniors) new k))
+      ∙ ap (λ (S : ℕ). immediateJuniors ρ S i) (to .standing)
+
+  pub lower-rewritten : (j is ms : ℕ) (seniors after : List ℕ) → j < 128 → is ≡ setAt 2 seniors (2 * j) → is < 2 ^ 128
+      → ((ρ : Roles) → Numbered ρ → Narrow ρ → RoleUsers ρ index → R < 2 ^ candidateCount ρ → is ≡ collect (candidateCount ρ) (λ i. has (immediateJuniors ρ R i) j) → ms ≡ directMembers ρ R j)
+      → after ≡ putAt ws (membersStart + 2 * j) (wordsOf 2 ms)
+      → Linked ws seniors → Partway old st 0 p t ws → Partway old st 0 p (t ∖ single j) after
+  lower-rewritten j is ms seniors after lj ei small members ea l q =
+      let n = numbered st (to .limits) in
+      let above = seniors-held ρ R (n .few) standing-below ws (now-juniors q) seniors j is l lj ei small in
+      let em = members ρ n (narrow st (to .limits)) (to .indexed .role-users) standing-below above in
+      rw ea (members-stored old st 0 p t j ms ws lj q (em ∙ ap (λ (S : ℕ). directMembers ρ S j) (sym (to .standing))))
+
+-- ---- what is left of the juniors: entries that are old, or new, in both records
+
+module _ (old : Rows) (st : State) (s p t s' p' t' : ℕ) (ws ws' : List ℕ) (q : Partway old st s p t ws) (q' : Partway old st s' p' t' ws') where
+  juniors-kept : (i : ℕ) → i < 128
+      → still s' (old .juniors) (immediateJuniors (rolesOf st) (st .standing)) i ≡ still s (old .juniors) (immediateJuniors (rolesOf st) (st .standing)) i
+      → juniorsIn ws' i ≡ juniorsIn ws i
+  juniors-kept i li e =
+      setAt-same 2 ws' ws (juniorsStart + 2 * i) (juniorsStart + 2 * i)
+      (λ j lj. q' .juniors i j li lj ∙ ap (λ (x : ℕ). word x j) e ∙ sym (q .juniors i j li lj))
+
+-- no role's juniors were rewritten
+pub linked-still : (old : Rows) (st : State) (s p t p' t' : ℕ) (ws ws' seniors : List ℕ) → Partway old st s p t ws → Partway old st s p' t' ws'
+    → Linked ws seniors → Linked ws' seniors
+linked-still old st s p t p' t' ws ws' seniors q q' =
+    linked-same ws ws' seniors (λ i li. juniors-kept old st s p t s p' t' ws ws' q q' i li refl)
+
+-- those of i were, and the table was altered with them
+pub linked-upper : (old : Rows) (st : State) (s p t p' t' i had has' : ℕ) (ws ws' seniors seniors' : List ℕ)
+    → Partway old st s p t ws → Partway old st (s ∖ single i) p' t' ws' → had ≡ juniorsIn ws i → has' ≡ juniorsIn ws' i
+    → ((f g : ℕ → ℕ) → Turned f seniors → had ≡ f i → has' ≡ g i → ((a : ℕ) → a < 128 → a ≢ i → g a ≡ f a) → Turned g seniors')
+    → length seniors' ≡ 256 → Linked ws seniors → Linked ws' seniors'
+linked-upper old st s p t p' t' i had has' ws ws' seniors seniors' q q' eh eh' relink size l =
+    let new = immediateJuniors (rolesOf st) (st .standing) in
+    record {
+      size = size;
+      turned = relink (juniorsIn ws) (juniorsIn ws') (l .turned) eh eh'
+          (λ a la d. juniors-kept old st s p t (s ∖ single i) p' t' ws ws' q q' a la (still-other s (old .juniors) new i a d));
+    }

@@ -1,0 +1,54 @@
+// Direct members: what a role has by those above it.
+ghost use mathlib.Core.Path.{_≡_};
+ghost use Prim.Native.Nat.{ℕ, _<_};
+ghost use lib.ListN.{length};
+ghost use Rattle.sets.specs.Held.{set128};
+ghost use Rattle.sets.specs.Sets.{_∖_, single};
+ghost use Rattle.model.specs.Hierarchy.{Rows};
+ghost use Rattle.model.specs.Record.{recordLength};
+ghost use Rattle.model.specs.State.{State};
+ghost use Rattle.indexes.specs.Index.{indexLength};
+ghost use Rattle.rows.specs.Linked.{Linked};
+ghost use Rattle.rows.specs.Partway.{Partway, Target};
+use hierarchy::lowest_item;
+use hierarchy::members_of;
+use indexes::HOLDERS;
+use indexes::USERS;
+use sets::Set128;
+use tables::MEMBERS;
+use tables::load128;
+use tables::store128;
+
+// Those of role j. The juniors that the record holds, and with them the seniors, are those of the standing set already.
+fn rewrite_lower(rec: &mut [u64], index: &[u64], seniors: &[u64], standing: Set128, j: usize)
+    requires { ⌜ length (now rec) ≡ recordLength ⌝ }
+    requires { ⌜ length (now index) ≡ indexLength ⌝ }
+    requires { ⌜ length (now seniors) ≡ 256 ⌝ }
+    requires { ⌜ j < 128 ⌝ }
+    ensures { λ r. ⌜ ((old : Rows) (st : State) (p t : ℕ) → Target st (set128 standing) (now (index .entry)) → Linked (now (rec .entry)) (now (seniors .entry)) → Partway old st 0 p t (now (rec .entry)) → Partway old st 0 p (t ∖ single j) (now (rec .exit))) ⌝ }
+{
+    let above = load128(seniors, 2 * j);
+    let members = members_of(&index[USERS..HOLDERS], above, standing, j);
+    store128(rec, MEMBERS + 2 * j, members);
+}
+
+// Those of the roles in `roles`.
+pub fn rewrite_lowers(
+    rec: &mut [u64],
+    index: &[u64],
+    seniors: &[u64],
+    standing: Set128,
+    roles: Set128,
+)
+    requires { ⌜ length (now rec) ≡ recordLength ⌝ }
+    requires { ⌜ length (now index) ≡ indexLength ⌝ }
+    requires { ⌜ length (now seniors) ≡ 256 ⌝ }
+    ensures { λ r. ⌜ ((old : Rows) (st : State) (p : ℕ) → Target st (set128 standing) (now (index .entry)) → Linked (now (rec .entry)) (now (seniors .entry)) → Partway old st 0 p (set128 roles) (now (rec .entry)) → Partway old st 0 p 0 (now (rec .exit)) × Linked (now (rec .exit)) (now (seniors .entry))) ⌝ }
+{
+    let mut rest = roles;
+    while !rest.is_empty() {
+        let j = lowest_item(rest);
+        rewrite_lower(rec, index, seniors, standing, j);
+        rest = rest.remove(j);
+    }
+}
