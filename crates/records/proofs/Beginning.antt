@@ -2,11 +2,11 @@
 -- Assumes nothing.
 use mathlib.Core.Path.{_≡_, refl, sym, _∙_, ap}
 use mathlib.Core.Logic.{_⊎_, ⊎-elim}
-use mathlib.Core.List.{List, [], _∷_}
+use mathlib.Core.List.{List, [], _∷_, _++_}
 use Prim.Native.Nat.{ℕ, _+_, _-_, _*_, _^_, _≤_, _<_}
-use native.Mathlib.Nat.{lt-of-lt-of-le}
+use native.Mathlib.Nat.{lt-of-lt-of-le, min-le-left}
 use native.Mathlib.Omega.{arith}
-use lib.ListN.{length, getD, set, take, drop, length-drop, List·getD-eq-default}
+use lib.ListN.{length, getD, set, take, drop, length-take, length-drop, List·getD-eq-default}
 use lib.Pow.{pow-mono}
 use lib.Seq.{ext-getD, getD-take, getD-drop, length-take-le}
 use Rattle.sets.specs.Words.{word}
@@ -14,21 +14,23 @@ use Rattle.sets.proofs.Truth.{either}
 use Rattle.sets.proofs.Items.{digit}
 use Rattle.sets.proofs.Words.{word-value, word-zero}
 use Rattle.model.specs.Lists.{elems, setAt, rowsAt}
-use Rattle.model.specs.Candidates.{candidates, Growing}
+use Rattle.model.specs.Candidates.{candidates}
 use Rattle.model.specs.Hierarchy.{candidateCount, permissionSet}
-use Rattle.model.specs.Record.{recordLength, crewStart, setsStart, permissionsStart, headerWord, built, Limits}
+use Rattle.model.specs.Record.{recordLength, crewStart, setsStart, headerWord, wordAt, built, Limits}
 use Rattle.model.specs.State.{State, rolesOf}
 use Rattle.model.proofs.Candidates.{candidates-growing}
 use Rattle.model.proofs.Lists.{length-elems, getD-elems, length-rowsAt, getD-rowsAt, setAt-words}
-use Rattle.model.proofs.Record.{row-below, standing-small}
+use Rattle.model.proofs.Record.{row-below, standing-small, built-length, built-word, word-head, word-crew, word-set}
 use Rattle.stores.specs.Stores.{putAt}
-use Rattle.stores.proofs.Stores.{length-putAt, putAt-below, putAt-above, putAt-in}
+use Rattle.stores.proofs.Stores.{length-putAt, putAt-below, putAt-above, putAt-in, part-back}
 use Rattle.tables.proofs.Parts.{setAt-part}
-use Rattle.mining.specs.Mining.{Written}
+use Rattle.mining.specs.Mining.{Written, Mines}
+use Rattle.mining.specs.declared.Mined.{Mined}
+use Rattle.mining.specs.declared.Mined.the-variants.{Count, TooMany}
 use Rattle.indexes.specs.Tables.{FillsFrom, SourceOf}
 use Rattle.indexes.proofs.Sources.{narrow}
-use Rattle.rows.specs.Partway.{Region, Headed, Begun}
-use Rattle.records.specs.Records.{OnlyCandidates, Described}
+use Rattle.rows.specs.Partway.{Headed, Begun}
+use Rattle.records.specs.Records.{OnlyCandidates, MinesInto, Described}
 
 -- word j of the set that stands at a place
 pub word-of : (w : ℕ) (ws : List ℕ) (at j : ℕ) → ((i : ℕ) → getD ws i 0 < 2 ^ 64) → j < w → getD ws (at + j) 0 ≡ word (setAt w ws at) j
@@ -56,6 +58,14 @@ stored8 ws a b c d e f g h r ee ef = rw (ee, ef) refl
 
 -- ---- the candidates, mined into a record of zeros
 
+pub zero-part : (ws : List ℕ) → ((i : ℕ) → getD ws i 0 ≡ 0) → (at n i : ℕ) → getD (take n (drop at ws)) i 0 ≡ 0
+zero-part ws zero at n i =
+    either i n (λ l. getD-take n (drop at ws) i 0 l ∙ getD-drop at ws i 0 ∙ zero (at + i))
+    (λ l.
+    let most : length (take n (drop at ws)) ≤ n = rw (length-take n (drop at ws)) (min-le-left n (length (drop at ws))) in
+    let far : length (take n (drop at ws)) ≤ i = omega arith in
+    List·getD-eq-default (take n (drop at ws)) 0 far)
+
 pub only-candidates : (ws table xs : List ℕ) (c : ℕ) → length ws ≡ recordLength → ((i : ℕ) → getD ws i 0 ≡ 0) → Written table c xs
     → OnlyCandidates (putAt ws setsStart table) xs
 only-candidates ws table xs c size zero w =
@@ -68,6 +78,13 @@ only-candidates ws table xs c size zero w =
       rest = λ i far.
           ⊎-elim (λ l. putAt-below ws setsStart table i l ∙ zero i) (λ l. putAt-above ws setsStart table i (omega arith) ∙ zero i) far;
     }
+
+-- the same of what mining answers
+pub mined-into : (xs ws table : List ℕ) (r : Mined) → length ws ≡ recordLength → ((i : ℕ) → getD ws i 0 ≡ 0) → length table ≡ 512 → Mines xs table r
+    → MinesInto xs (take setsStart ws ++ (table ++ drop 512 (drop setsStart ws))) r
+mined-into xs ws table (Count k) size zero lt w =
+    (rw (part-back ws setsStart 512 table lt (omega arith)) (only-candidates ws table xs k size zero w), w .holds .count, w .holds .frame .few)
+mined-into xs ws table TooMany size zero lt many = many
 
 -- ---- the header and the crew rows
 
@@ -116,12 +133,12 @@ module _ (st : State) (ws crew : List ℕ) (at n m c r e : ℕ) (d : Described s
       let b = few in
       record {
         headed = record {
-              size = length-putAt first crewStart rows ∙ first-length;
-              head = λ i l.
-                  putAt-below first crewStart rows i l ∙ in-head i l ∙ header-is st n m c r (d .users) (d .permissions) (d .count) (d .standing) i l;
-              crew = row-word;
-              sets = λ k j lk lj. behind (setsStart + 4 * k + j) (omega arith) ∙ o .sets k j lk lj;
-            };
+          size = length-putAt first crewStart rows ∙ first-length;
+          head = λ i l.
+              putAt-below first crewStart rows i l ∙ in-head i l ∙ header-is st n m c r (d .users) (d .permissions) (d .count) (d .standing) i l;
+          crew = row-word;
+          sets = λ k j lk lj. behind (setsStart + 4 * k + j) (omega arith) ∙ o .sets k j lk lj;
+        };
         zero = λ i far l. behind i (omega arith) ∙ o .rest i (_⊎_.inr far);
       }
     where
@@ -182,3 +199,14 @@ module _ (st : State) (lim : Limits st) (ws : List ℕ) (h : Headed st ws) where
         few-candidates = rw head-count (lim .candidates-most);
         grows = rw (sym head-sets) (candidates-growing (st .rows));
       }
+
+-- a record that is built afresh has all that
+pub built-headed : (st : State) (ws : List ℕ) → ws ≡ built st → Headed st ws
+built-headed st ws e =
+    let was : (i : ℕ) → i < recordLength → getD ws i 0 ≡ wordAt st i = λ i l. ap (λ (l : List ℕ). getD l i 0) e ∙ built-word st i l in
+    record {
+      size = ap length e ∙ built-length st;
+      head = λ i l. was i (omega arith) ∙ word-head st i l;
+      crew = λ u j lu lj. was (crewStart + 4 * u + j) (omega arith) ∙ word-crew st u j lu lj;
+      sets = λ k j lk lj. was (setsStart + 4 * k + j) (omega arith) ∙ word-set st k j lk lj;
+    }

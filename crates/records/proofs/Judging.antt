@@ -22,9 +22,8 @@ use Rattle.model.specs.Record.{recordLength, crewStart, built, stateOf, sound, 
 use Rattle.model.specs.State.{rolesOf, fresh, withinLimits, rowsWithin}
 use Rattle.model.proofs.Lists.{length-rowsAt}
 use Rattle.model.proofs.Record.{withinLimits-iff, rowsWithin-iff, sound-iff, sound-built, built-length}
-use Rattle.mining.specs.Mining.{Written}
 use Rattle.rows.specs.Linked.{Ready}
-use Rattle.records.specs.Records.{Described}
+use Rattle.records.specs.Records.{OnlyCandidates, Described}
 
 -- ---- what two tests in a row tell
 
@@ -65,8 +64,8 @@ module _ (ws : List ℕ) (full : length ws ≡ recordLength) where
   unfolding stateOf rolesOf candidateCount
   too-many h = sym (not-So (sound ws) (λ s. let l = sound-limits s .candidates-most in let z : ⊥ = omega arith in z))
 
-  -- from here on the limits are kept, and the candidates are the sets of a table
-  module _ (ok : So limited) (table : List ℕ) (c : ℕ) (w : Written table c (candidates (rowsAt (getD ws 0 0) ws crewStart))) where
+  -- from here on the limits are kept, and there are c candidates
+  module _ (ok : So limited) (c : ℕ) (count : c ≡ length (candidates (rowsAt (getD ws 0 0) ws crewStart))) (few : c ≤ 128) where
     within-parts : ((1 ≤ getD ws 0 0) × (getD ws 0 0 ≤ 128) × (1 ≤ getD ws 1 0) × (getD ws 1 0 ≤ 256))
         × ((u : ℕ) → u < length (rowsAt (getD ws 0 0) ws crewStart) → getD (rowsAt (getD ws 0 0) ws crewStart) u 0 < 2 ^ getD ws 1 0)
     within-parts =
@@ -75,7 +74,7 @@ module _ (ws : List ℕ) (full : length ws ≡ recordLength) where
 
     pub counted : candidateCount (rolesOf (stateOf ws)) ≡ c
     unfolding stateOf rolesOf candidateCount
-    counted = sym (w .holds .count)
+    counted = sym count
 
     pub too-high : (s t : ℕ) (b : Bool) → s ≡ setAt 2 ws 4 → t ≡ collect 128 (λ i. ltb i c) → b ≡ subset s t → not b ≡ true → false ≡ sound ws
     unfolding stateOf
@@ -83,7 +82,6 @@ module _ (ws : List ℕ) (full : length ws ≡ recordLength) where
         sym (not-So (sound ws)
         (λ x.
         let low : s < 2 ^ c = rw es (rw counted at (sound-limits x .standing-below)) in
-        let few = w .holds .frame .few in
         So-not (sym e ∙ not-true b h)
         (subset-iff s t .1 (λ i y. rw et (let l = item-below c s i low y in collect-iff 128 (λ i. ltb i c) i .1 (omega arith, ltb-iff i c .1 l))))))
 
@@ -109,13 +107,17 @@ module _ (ws : List ℕ) (full : length ws ≡ recordLength) where
             permissions-most = p .0 .3;
             rows-count = length-rowsAt (getD ws 0 0) ws crewStart;
             rows-below = λ u l. p .1 u (rw (length-rowsAt (getD ws 0 0) ws crewStart) l);
-            candidates-most = rw counted (w .holds .frame .few);
+            candidates-most = rw counted few;
             standing-below = rw counted low-enough;
           }
 
 -- ---- a record within the limits, held against the one that is built afresh
 
 module _ (ws : List ℕ) (full : length ws ≡ recordLength) (lim : Limits (stateOf ws)) where
+  pub few-users : getD ws 0 0 ≤ 128
+  unfolding stateOf
+  few-users = lim .users-most
+
   pub described : (c : ℕ) → candidateCount (rolesOf (stateOf ws)) ≡ c → Described (stateOf ws) ws crewStart (getD ws 0 0) (getD ws 1 0) c (setAt 2 ws 4)
   unfolding stateOf
   described c e = record { limits = lim; users = refl; permissions = refl; rows = refl; count = e; standing = refl }
@@ -145,6 +147,16 @@ module _ (ws : List ℕ) (full : length ws ≡ recordLength) (lim : Limits (stat
   ready image index seniors h s =
       let same : image ≡ ws = h .afresh ∙ sym (sound-built ws s) in
       record { limits = lim; afresh = sound-built ws s; indexed = h .indexed; linked = rw same at (h .linked) }
+
+module _ (n m : ℕ) (rows : List ℕ) (lim : Limits (fresh n m rows)) where
+  pub fresh-few : n ≤ 128
+  unfolding fresh
+  fresh-few = lim .users-most
+
+-- a fresh state's candidates are those of its rows
+pub fresh-candidates : (n m : ℕ) (rows ws : List ℕ) → OnlyCandidates ws (candidates rows) → OnlyCandidates ws (candidates (fresh n m rows .rows))
+unfolding fresh
+fresh-candidates n m rows ws o = o
 
 -- "Fresh from mining, R is all candidates."
 pub all-standing : (n m : ℕ) (rows : List ℕ) (c : ℕ) → c ≤ 128 → candidateCount (rolesOf (fresh n m rows)) ≡ c

@@ -9,12 +9,13 @@ use lib.ListN.{length, getD}
 use Rattle.sets.specs.Truth.{_implies_, all}
 use Rattle.sets.specs.Sets.{_∩_}
 use Rattle.model.specs.Lists.{rowsAt}
-use Rattle.model.specs.Candidates.{candidates}
 use Rattle.model.specs.Coverage.{grant, covered}
 use Rattle.model.specs.Hierarchy.{candidateCount}
 use Rattle.model.specs.Indexes.{rolesOfUser}
 use Rattle.model.specs.Record.{recordLength, setsStart, permissionsStart, Limits}
 use Rattle.model.specs.State.{State, rolesOf}
+use Rattle.mining.specs.declared.Mined.{Mined}
+use Rattle.mining.specs.declared.Mined.the-variants.{Count, TooMany}
 use Rattle.rows.specs.Partway.{Region}
 
 -- a record with nothing in it but the candidates xs
@@ -22,6 +23,11 @@ pub record OnlyCandidates (ws xs : List ℕ) : Type 0 where
   pub size : length ws ≡ recordLength
   pub sets : Region 4 setsStart (λ k. getD xs k 0) ws
   pub rest : (i : ℕ) → (i < setsStart) ⊎ (permissionsStart ≤ i) → getD ws i 0 ≡ 0
+
+-- a record of zeros that was to get the candidates xs: it has them, and there are k; or there are too many
+abbrev pub MinesInto : List ℕ → List ℕ → Mined → Type 0
+MinesInto xs ws (Count k) = OnlyCandidates ws xs × (k ≡ length xs) × (k ≤ 128)
+MinesInto xs ws TooMany = 128 < length xs
 
 -- a state within the limits whose crew rows are the n rows from place `at` on, with m permissions, c candidates and the standing set r
 pub record Described (st : State) (crew : List ℕ) (at n m c r : ℕ) : Type 0 where

@@ -1,10 +1,11 @@
-// A record on its way: its header, its crew rows, then its index and its rows.
+// A record on its way: its candidates, its header and crew rows, then its index and its rows.
 ghost use mathlib.Core.Path.{_≡_};
 ghost use mathlib.Core.List.{[], _∷_};
 ghost use Prim.Native.Nat.{ℕ, _+_, _*_, _≤_};
 ghost use lib.ListN.{length, getD};
 ghost use Rattle.sets.specs.Held.{set128};
 ghost use Rattle.sets.specs.Words.{word};
+ghost use Rattle.model.specs.Lists.{rowsAt};
 ghost use Rattle.model.specs.Candidates.{candidates};
 ghost use Rattle.model.specs.Record.{recordLength, crewStart, Limits};
 ghost use Rattle.model.specs.State.{State};
@@ -13,12 +14,26 @@ ghost use Rattle.indexes.specs.Index.{indexLength};
 ghost use Rattle.indexes.specs.Tables.{FillsFrom};
 ghost use Rattle.rows.specs.Linked.{Ready};
 ghost use Rattle.rows.specs.Partway.{Begun};
-ghost use Rattle.records.specs.Records.{OnlyCandidates, Described};
+ghost use Rattle.records.specs.Records.{OnlyCandidates, MinesInto, Described};
 use indexes::fill_index;
+use mining::Mined;
+use mining::mine;
 use rows::build_rows;
 use sets::Set128;
 use tables::CREW;
+use tables::PERMISSIONS;
+use tables::SETS;
 use tables::copy;
+
+// The candidates of the n rows that stand in `crew` from place `at` on, into a record of zeros.
+pub fn mine_record(rec: &mut [u64], crew: &[u64], at: usize, n: usize) -> Mined
+    requires { ⌜ length (now rec) ≡ recordLength ⌝ }
+    requires { ⌜ ((i : ℕ) → getD (now rec) i 0 ≡ 0) ⌝ }
+    requires { ⌜ at + 4 * n ≤ length (now crew) ⌝ }
+    ensures { λ r. ⌜ MinesInto (candidates (rowsAt n (now (crew .entry)) at)) (now (rec .exit)) r ⌝ }
+{
+    mine(crew, at, n, &mut rec[SETS..PERMISSIONS])
+}
 
 fn write_header(rec: &mut [u64], n: u64, m: u64, c: u64, standing: Set128)
     requires { ⌜ length (now rec) ≡ recordLength ⌝ }

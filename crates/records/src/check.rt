@@ -14,15 +14,13 @@ ghost use Rattle.rows.specs.Linked.{Ready};
 ghost use Rattle.records.specs.Records.{OnlyCandidates};
 use crate::begin::begin_record;
 use crate::begin::complete_record;
+use crate::begin::mine_record;
 use crate::cover::all_covered;
 use indexes::INDEX_LENGTH;
 use mining::Mined;
-use mining::mine;
 use sets::Set128;
 use tables::CREW;
 use tables::LENGTH;
-use tables::PERMISSIONS;
-use tables::SETS;
 use tables::STANDING;
 use tables::holds;
 use tables::limits_kept;
@@ -44,13 +42,7 @@ fn within(rec: &[u64]) -> bool
 
 // Whether the record covers its grants and is what building afresh gives, word by word. It is built afresh in `image`, which has its c candidates and
 // nothing else yet. The index and the immediate seniors made on the way are left.
-fn matches(
-    rec: &[u64],
-    c: usize,
-    image: &mut [u64],
-    index: &mut [u64],
-    seniors: &mut [u64],
-) -> bool
+fn matches(rec: &[u64], c: usize, image: &mut [u64], index: &mut [u64], seniors: &mut [u64]) -> bool
     requires { ⌜ length (now rec) ≡ recordLength ⌝ }
     requires { ⌜ Limits (stateOf (now rec)) ⌝ }
     requires { ⌜ candidateCount (rolesOf (stateOf (now rec))) ≡ c ⌝ }
@@ -84,7 +76,7 @@ pub fn is_sound(rec: &[u64], index: &mut [u64], seniors: &mut [u64]) -> bool
     }
     let mut image = [0u64; LENGTH];
     let n = rec[0] as usize;
-    let Mined::Count(c) = mine(rec, CREW, n, &mut image[SETS..PERMISSIONS]) else {
+    let Mined::Count(c) = mine_record(&mut image, rec, CREW, n) else {
         return false;
     };
     if !load128(rec, STANDING).is_subset(Set128::below(c)) {

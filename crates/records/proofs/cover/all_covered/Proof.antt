@@ -4,7 +4,7 @@ use borrow.Author.Needs.{needs}
 use mathlib.Core.Path.{_≡_, sym, _∙_}
 use mathlib.Core.Bool.{So}
 use native.Mathlib.Nat.{not-suc-le-zero}
-use Prim.Native.Nat.{ℕ, _-_, _≤_}
+use Prim.Native.Nat.{_-_, _≤_}
 use borrow.Author.Tests.{not-true, not-false}
 use Rattle.sets.specs.Truth.{all}
 use Rattle.sets.proofs.Truth.{So-not, all-of, all-more, all-fails, all-through}

@@ -1,0 +1,112 @@
+-- Each part is judged in turn; what is left is the comparison.
+-- Assumes nothing.
+use borrow.Author.Needs.{needs}
+use borrow.Author.Tests.{not-false}
+use mathlib.Core.Path.{sym, _∙_, subst}
+use mathlib.Core.Bool.{So}
+use Prim.Native.Nat.{_+_, _*_, _≤_}
+use native.Mathlib.Omega.{arith}
+use lib.ListN.{length, getD}
+use Rattle.sets.proofs.Truth.{So-not}
+use Rattle.model.specs.Record.{recordLength, stateOf}
+use Rattle.mining.proofs.Written.{blank}
+use Rattle.records.specs.Records.{MinesInto}
+use Rattle.records.proofs.Judging.{limited, unlimited, limited-users, too-many, too-high, counted, limits}
+use Rattle.records.proofs.check.is_sound.Statement.{statement}
+use Rattle.records.proofs.check.is_sound.Tie as tie
+
+-- the limits are kept
+limited-at : (c : tie.Else1) → So (limited (c .before .before .before .before .before .args .rec .now) (c .before .before .before .before .before .pre .0))
+limited-at c = sym (c .before .within .ensures) ∙ not-false _ (c .if1 .left)
+
+within-requires : tie.Need-within-requires
+within-requires c κs = search needs
+
+returns : tie.Need-returns
+returns c =
+    let no = unlimited _ (c .before .before .before .before .before .pre .0) _ (c .before .within .ensures) (c .if1 .taken) in
+    (no, λ s. absurd (So-not (sym no) s))
+
+shared-slice-read-n : tie.Need-shared-slice-read-n
+shared-slice-read-n c = search needs
+
+slice-aggregate-mine-record : tie.Need-slice-aggregate-mine-record
+slice-aggregate-mine-record c = search needs
+
+mine-record-requires : tie.Need-mine-record-requires
+mine-record-requires c κs =
+    let start = c .before .before .before .before .before .before .before in
+    let few = limited-users (start .args .rec .now) (start .pre .0) (limited-at (c .before .before)) in
+    let full = start .pre .0 in
+    let room : 8 + 4 * getD (start .args .rec .now) 0 0 ≤ length (start .args .rec .now) = omega arith in
+    (search needs, (blank recordLength, room))
+
+enum-known-c : tie.Need-enum-known-c
+enum-known-c c = search needs
+
+enum-told : tie.Need-enum-told
+enum-told c = search needs
+
+returns-2 : tie.Need-returns-2
+returns-2 c =
+    let no = too-many _ (c .before .before .before .before .before .before .before .before .before .before .before .pre .0) (subst (MinesInto _ _) (c .enum-told .given .1) (c .before .before .before .mine-record .ensures)) in
+    (no, λ s. absurd (So-not (sym no) s))
+
+load128-requires : tie.Need-load128-requires
+load128-requires c κs = search needs
+
+below-requires : tie.Need-below-requires
+below-requires c κs = search needs
+
+is-subset-requires : tie.Need-is-subset-requires
+is-subset-requires c κs = search needs
+
+returns-3 : tie.Need-returns-3
+returns-3 c =
+    let m = subst (MinesInto _ _) (c .before .before .before .before .before .c .given .1) (c .before .before .before .before .before .before .before .before .mine-record .ensures) in
+    let no = too-high _ (c .before .before .before .before .before .before .before .before .before .before .before .before .before .before .before .before .pre .0) (limited-at (c .before .before .before .before .before .before .before .before .before .before .before)) _ (m .1) (m .2) _ _ _ (c .before .before .before .load128 .ensures) (c .before .before .below .ensures) (c .before .is-subset .ensures) (c .if2 .taken) in
+    (no, λ s. absurd (So-not (sym no) s))
+
+slice-aggregate-matches : tie.Need-slice-aggregate-matches
+slice-aggregate-matches c = search needs
+
+matches-requires : tie.Need-matches-requires
+unfolding stateOf
+matches-requires c κs =
+    let ws = c .before .before .before .before .before .before .before .before .before .before .before .before .before .before .before .before .before .before .before .args .rec .now in
+    let given = c .before .before .before .before .before .before .before .before .before .before .before .before .before .before .before .before .before .before .before .pre in
+    let ok = limited-at (c .before .before .before .before .before .before .before .before .before .before .before .before .before .before) in
+    let m = subst (MinesInto _ _) (c .before .before .before .before .before .before .before .before .c .given .1) (c .before .before .before .before .before .before .before .before .before .before .before .mine-record .ensures) in
+    let lim = limits ws (given .0) ok _ (m .1) (m .2) _ _ _ (c .before .before .before .before .before .before .load128 .ensures) (c .before .before .before .before .before .below .ensures) (c .before .before .before .before .is-subset .ensures) (c .before .before .before .if2 .left) in
+    (given .0, (lim, (counted ws (given .0) ok _ (m .1) (m .2), (m .0, (search needs, (search needs, given .1 .1 .1))))))
+
+same-length : tie.Need-same-length
+same-length c = search needs
+
+same-length-2 : tie.Need-same-length-2
+same-length-2 c = search needs
+
+returns-4 : tie.Need-returns-4
+returns-4 c = search needs
+
+pub is-sound-spec : {M : Type 1} → statement M
+is-sound-spec =
+    tie.close
+    (tie.spec
+    within-requires
+    returns
+    shared-slice-read-n
+    slice-aggregate-mine-record
+    mine-record-requires
+    enum-known-c
+    enum-told
+    returns-2
+    load128-requires
+    below-requires
+    is-subset-requires
+    returns-3
+    slice-aggregate-matches
+    matches-requires
+    same-length
+    same-length-2
+    returns-4)
