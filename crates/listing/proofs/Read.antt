@@ -23,7 +23,7 @@ use Rattle.model.proofs.Claim.{fit-sound}
 use Rattle.text_crew.specs.declared.CrewRead.{CrewRead}
 use Rattle.text_crew.specs.declared.header.Header.{Header}
 use Rattle.text_crew.specs.declared.header.Header.the-variants.{Crew, Malformed, Beyond}
-use Rattle.text_crew.specs.Reader.{Answer, Read, given, refusal, afterRows, afterHeader, rowsTo, headerAt, readCrew, laid, bufferLength, longestText}
+use Rattle.text_crew.specs.Reader.{ReadReply, Read, readResult, readRefused, afterRows, afterHeader, rowsTo, headerAt, readCrew, laid, bufferLength, longestText}
 use Rattle.text_crew.specs.Reader.Read.{rowsRead, badForm, badBit}
 use Rattle.text_crew.proofs.Laid.{length-laid}
 use Rattle.text_crew.proofs.Canonical.{Accepted, accepted, words-hold}
@@ -131,10 +131,10 @@ taken-rows n ws =
     tabulate-same n (λ u. setAt 4 (take (4 * n) ws) (0 + 4 * u)) (λ u. setAt 4 ws (0 + 4 * u))
     (λ u l. setAt-same 4 (take (4 * n) ws) ws (0 + 4 * u) (0 + 4 * u) (λ j b. getD-take (4 * n) ws (0 + 4 * u + j) 0 (omega arith)))
 
-module _ (text : List ℕ) (r : CrewRead) (ws : List ℕ) (p : given r ws ≡ readCrew text (replicate 512 0)) where
+module _ (text : List ℕ) (r : CrewRead) (ws : List ℕ) (p : readResult r ws ≡ readCrew text (replicate 512 0)) where
   code-read : r .code ≡ readCrew text (replicate 512 0) .code
-  unfolding given
-  code-read = ap (λ (x : Answer). x .code) p
+  unfolding readResult
+  code-read = ap (λ (x : ReadReply). x .code) p
 
   pub text-refused : r .code ≢ 0 → refusedText (r .code) ≡ listing text
   unfolding listing
@@ -148,16 +148,16 @@ module _ (text : List ℕ) (r : CrewRead) (ws : List ℕ) (p : given r ws ≡ re
     taken = accepted text (replicate 512 0) (sym code-read ∙ z)
 
     users-read : r .n ≡ taken .users
-    unfolding given
-    users-read = ap (λ (x : Answer). x .n) (p ∙ taken .answer)
+    unfolding readResult
+    users-read = ap (λ (x : ReadReply). x .n) (p ∙ taken .answer)
 
     permissions-read : r .m ≡ taken .permissions
-    unfolding given
-    permissions-read = ap (λ (x : Answer). x .m) (p ∙ taken .answer)
+    unfolding readResult
+    permissions-read = ap (λ (x : ReadReply). x .m) (p ∙ taken .answer)
 
     words-read : ws ≡ laid (taken .rows)
-    unfolding given
-    words-read = ap (λ (x : Answer). x .words) (p ∙ taken .answer)
+    unfolding readResult
+    words-read = ap (λ (x : ReadReply). x .words) (p ∙ taken .answer)
 
     pub text-limits : So (withinLimits (r .n) (r .m))
     text-limits = (λ i. withinLimits (users-read i) (permissions-read i)) ∙ taken .limits
@@ -180,42 +180,42 @@ module _ (text : List ℕ) (r : CrewRead) (ws : List ℕ) (p : given r ws ≡ re
     text-within = (λ i. rowsWithin (permissions-read i) (rows-read i)) ∙ taken .within
 
     pub text-listed : listed (r .n) (r .m) (rowsAt (r .n) (take (4 * r .n) ws) 0) ≡ listing text
-    unfolding listing given
+    unfolding listing readResult
     text-listed =
         let a = readCrew text (replicate 512 0) in
         ap (listed (r .n) (r .m)) (taken-rows (r .n) ws)
-        ∙ ap (λ (x : Answer). listed (x .n) (x .m) (rowsAt (x .n) (x .words) 0)) p
+        ∙ ap (λ (x : ReadReply). listed (x .n) (x .m) (rowsAt (x .n) (x .words) 0)) p
         ∙ sym (if-true (eqb (a .code) 0) (listed (a .n) (a .m) (rowsAt (a .n) (a .words) 0)) (refusedText (a .code)) (eqb-iff (a .code) 0 .1 (sym code-read ∙ z)))
 
 -- ---- what can be printed
 
 rows-code : (text buffer : List ℕ) (n m : ℕ) (o : Read) → (afterRows text buffer n m o .code ≡ 0) ⊎ Printable (afterRows text buffer n m o .code)
-unfolding afterRows refusal
+unfolding afterRows readRefused
 rows-code text buffer n m (rowsRead rs at) =
     let t = eqb at (length text) in
-    let yes : Answer = record { code = 0; n = n; m = m; words = laid rs } in
-    by-test t (λ y. _⊎_.inl (ap (λ (x : Answer). x .code) (if-true t yes (refusal 10 buffer) y)))
-    (λ y. _⊎_.inr (_⊎_.inr (_⊎_.inr (_⊎_.inr (ap (λ (x : Answer). x .code) (if-false t yes (refusal 10 buffer) y))))))
+    let yes : ReadReply = record { code = 0; n = n; m = m; words = laid rs } in
+    by-test t (λ y. _⊎_.inl (ap (λ (x : ReadReply). x .code) (if-true t yes (readRefused 10 buffer) y)))
+    (λ y. _⊎_.inr (_⊎_.inr (_⊎_.inr (_⊎_.inr (ap (λ (x : ReadReply). x .code) (if-false t yes (readRefused 10 buffer) y))))))
 rows-code text buffer n m badForm = _⊎_.inr (_⊎_.inr (_⊎_.inr (_⊎_.inr (refl))))
 rows-code text buffer n m badBit = _⊎_.inr (_⊎_.inr (_⊎_.inl refl))
 
 header-code : (text buffer : List ℕ) (h : Header) → (afterHeader text buffer h .code ≡ 0) ⊎ Printable (afterHeader text buffer h .code)
-unfolding afterHeader refusal
+unfolding afterHeader readRefused
 header-code text buffer (Crew n m at) = rows-code text buffer n m (rowsTo text m at n)
 header-code text buffer Malformed = _⊎_.inr (_⊎_.inr (_⊎_.inr (_⊎_.inr (refl))))
 header-code text buffer Beyond = _⊎_.inr (_⊎_.inl refl)
 
 reader-code : (text buffer : List ℕ) → (readCrew text buffer .code ≡ 0) ⊎ Printable (readCrew text buffer .code)
-unfolding readCrew refusal
+unfolding readCrew readRefused
 reader-code text buffer =
     let t1 = isnt (eqb (length buffer) bufferLength) in
     let t2 = isnt (leb (length text) longestText) in
     let rest = afterHeader text buffer (headerAt text) in
-    let inner = if t2 then refusal 10 buffer else rest in
-    by-test t1 (λ y. _⊎_.inr (_⊎_.inr (_⊎_.inl (ap (λ (x : Answer). x .code) (if-true t1 (refusal 3 buffer) inner y)))))
+    let inner = if t2 then readRefused 10 buffer else rest in
+    by-test t1 (λ y. _⊎_.inr (_⊎_.inr (_⊎_.inl (ap (λ (x : ReadReply). x .code) (if-true t1 (readRefused 3 buffer) inner y)))))
     (λ y.
-    by-test t2 (λ z. _⊎_.inr (_⊎_.inr (_⊎_.inr (_⊎_.inr (ap (λ (x : Answer). x .code) (if-false t1 (refusal 3 buffer) inner y ∙ if-true t2 (refusal 10 buffer) rest z))))))
-    (λ z. rw (if-false t1 (refusal 3 buffer) inner y ∙ if-false t2 (refusal 10 buffer) rest z) (header-code text buffer (headerAt text))))
+    by-test t2 (λ z. _⊎_.inr (_⊎_.inr (_⊎_.inr (_⊎_.inr (ap (λ (x : ReadReply). x .code) (if-false t1 (readRefused 3 buffer) inner y ∙ if-true t2 (readRefused 10 buffer) rest z))))))
+    (λ z. rw (if-false t1 (readRefused 3 buffer) inner y ∙ if-false t2 (readRefused 10 buffer) rest z) (header-code text buffer (headerAt text))))
 
 listed-forms : (n m : ℕ) (rs : List ℕ) → ((k : ℕ) × Printable k × (listed n m rs ≡ refusedText k)) ⊎ ((st : State) × (listed n m rs ≡ rolesText (settled st)))
 unfolding listed
@@ -224,7 +224,7 @@ listed-forms n m rs =
     by-test t (λ y. _⊎_.inr (fresh n m rs, if-true t (rolesText (settled (fresh n m rs))) (refusedText 4) y))
     (λ y. _⊎_.inl (4, _⊎_.inr (_⊎_.inr (_⊎_.inl refl)), if-false t (rolesText (settled (fresh n m rs))) (refusedText 4) y))
 
--- a listing is the roles of a settled state, or a refusal with 2, 3, 4 or 10
+-- a listing is the roles of a settled state, or a readRefused with 2, 3, 4 or 10
 pub listing-forms : (text : List ℕ)
     → ((k : ℕ) × Printable k × (listing text ≡ refusedText k)) ⊎ ((st : State) × (listing text ≡ rolesText (settled st)))
 unfolding listing

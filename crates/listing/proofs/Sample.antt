@@ -9,7 +9,7 @@ use Rattle.text.specs.Fixed.{holds}
 use Rattle.text.specs.Decimal.{decimalDigit, decimalAt, decimalOf, decimal}
 use Rattle.text.specs.Hexadecimal.{hexadecimalAt, hexadecimalValue, hexadecimal}
 use Rattle.text_crew.specs.Format.{digitsFor}
-use Rattle.text_crew.specs.Reader.{limited, headerEnd, headerRest, headerAt, rowRest, rowAt, withRow, nextRow, rowsTo, refusal, laid, afterRows, afterHeader, readCrew}
+use Rattle.text_crew.specs.Reader.{limited, headerEnd, headerRest, headerAt, rowRest, rowDigitsAt, withRow, nextRow, rowsTo, readRefused, laid, afterRows, afterHeader, readCrew}
 use Rattle.listing.specs.Listing.{plainWeights, plainTolerance, settled, field, line, linesTo, headLine, refusedText, roleLine, rolesText, listed, listing}
 
 -- `crew,3,3`, `0,3`, `1,6`, `2,7`
@@ -22,6 +22,6 @@ sampleRoles = 114 ∷ 111 ∷ 108 ∷ 101 ∷ 115 ∷ 44 ∷ 50 ∷ 44 ∷ 49 �
 
 pub sample : listing sampleText ≡ sampleRoles
 unfolding everything digitByte digitOf digitAt holds decimalDigit decimalAt decimalOf decimal hexadecimalAt hexadecimalValue hexadecimal digitsFor
-    limited headerEnd headerRest headerAt rowRest rowAt withRow nextRow rowsTo refusal laid afterRows afterHeader readCrew
+    limited headerEnd headerRest headerAt rowRest rowDigitsAt withRow nextRow rowsTo readRefused laid afterRows afterHeader readCrew
     plainWeights plainTolerance settled field line linesTo headLine refusedText roleLine rolesText listed listing
 sample = refl

@@ -3,7 +3,7 @@ ghost use mathlib.Core.Path.{_≡_};
 ghost use Rattle.model.specs.Calls.{mine, edit, qualityOf, mayOf};
 ghost use Rattle.model.specs.Machine.Call.{strike, restore, eliminate, review};
 ghost use Rattle.quality.specs.Reading.{weightsOf};
-ghost use Rattle.text_crew.specs.Reader.{given, readCrew};
+ghost use Rattle.text_crew.specs.Reader.{readResult, readCrew};
 ghost use Rattle.call_mine.specs.Answers.{mined};
 ghost use Rattle.call_strike.specs.Answers.{struck};
 ghost use Rattle.call_restore.specs.Answers.{restored};
@@ -79,7 +79,7 @@ pub extern "C" fn panel_may(rec: &[u64], u: u64, p: u64) -> MayAnswer
 
 #[no_mangle]
 pub extern "C" fn panel_read_crew(text: &[u8], rows: &mut [u64]) -> CrewRead
-    ensures { λ r. ⌜ given r (now (rows .exit)) ≡ readCrew (now (text .entry)) (now (rows .entry)) ⌝ }
+    ensures { λ r. ⌜ readResult r (now (rows .exit)) ≡ readCrew (now (text .entry)) (now (rows .entry)) ⌝ }
 {
     text_crew::read_crew(text, rows)
 }

@@ -26,8 +26,8 @@ use Rattle.text_crew.specs.declared.header.Header.{Header}
 use Rattle.text_crew.specs.declared.header.Header.the-variants.{Crew, Malformed, Beyond}
 use Rattle.text_crew.specs.declared.row.Row.{Row}
 use Rattle.text_crew.specs.declared.row.Row.the-variants.{Digits, Broken}
-use Rattle.text_crew.specs.declared.rows.Rows.the-variants.{End, BadForm, BadBit}
-use Rattle.text_crew.specs.Reader.{Read, rowsRead, badForm, badBit, rowAt, withRow, nextRow, rowsTo, laid, rowsGiven, Filled, Answer, refusal, given, headerAt, afterRows, afterHeader, readCrew}
+use Rattle.text_crew.specs.declared.rows.RowsEnd.the-variants.{End, BadForm, BadBit}
+use Rattle.text_crew.specs.Reader.{Read, rowsRead, badForm, badBit, rowDigitsAt, withRow, nextRow, rowsTo, laid, rowsEnd, RowsLaid, ReadReply, readRefused, readResult, headerAt, afterRows, afterHeader, readCrew}
 use Rattle.text_crew.proofs.Lines.{said-no, said-yes}
 use Rattle.text_crew.proofs.Laid.{laid-more}
 
@@ -79,11 +79,11 @@ unfolding rowsTo
 fill-none text m start words e = record { rows = []; read = refl; count = refl; held = e }
 
 module _ (text : List ℕ) (m start u at : ℕ) (words : List ℕ) (f : Filling text m start u at words) where
-  step : (o : Row) → rowAt text (digitsFor m) u at ≡ o → rowsTo text m start (suc u) ≡ withRow text m (f .rows) o
+  step : (o : Row) → rowDigitsAt text (digitsFor m) u at ≡ o → rowsTo text m start (suc u) ≡ withRow text m (f .rows) o
   unfolding rowsTo nextRow
   step o e = rw (f .read, e) refl
 
-  pub fill-more : (digits s : ℕ) (after : List ℕ) → u < 128 → rowAt text (digitsFor m) u at ≡ Digits digits → s ≡ hexadecimalValue (digitsFor m) text digits → So (ltb s (2 ^ m))
+  pub fill-more : (digits s : ℕ) (after : List ℕ) → u < 128 → rowDigitsAt text (digitsFor m) u at ≡ Digits digits → s ≡ hexadecimalValue (digitsFor m) text digits → So (ltb s (2 ^ m))
       → after ≡ putAt words (4 * u) (wordsOf 4 s)
       → Filling text m start (u + 1) (digits + digitsFor m + 1) after
   unfolding withRow
@@ -95,75 +95,75 @@ module _ (text : List ℕ) (m start u at : ℕ) (words : List ℕ) (f : Filling 
         held = w ∙ rw (f .held) (laid-more (f .rows) u s (f .count) h);
       }
 
-  pub fill-broken : (n : ℕ) (after : List ℕ) → u < n → rowAt text (digitsFor m) u at ≡ Broken
-      → (BadForm ≡ rowsGiven (rowsTo text m start n)) × Filled (rowsTo text m start n) after
-  unfolding withRow rowsGiven Filled
+  pub fill-broken : (n : ℕ) (after : List ℕ) → u < n → rowDigitsAt text (digitsFor m) u at ≡ Broken
+      → (BadForm ≡ rowsEnd (rowsTo text m start n)) × RowsLaid (rowsTo text m start n) after
+  unfolding withRow rowsEnd RowsLaid
   fill-broken n after h e =
       let k : suc u + (n - suc u) ≡ n = omega arith in
       let r : rowsTo text m start n ≡ badForm = rw k at (form-stays text m start u (step Broken e) (n - suc u)) in
       rw r (refl, tt)
 
-  pub fill-bit : (n digits s : ℕ) (after : List ℕ) → u < n → rowAt text (digitsFor m) u at ≡ Digits digits → s ≡ hexadecimalValue (digitsFor m) text digits → ltb s (2 ^ m) ≡ false
-      → (BadBit ≡ rowsGiven (rowsTo text m start n)) × Filled (rowsTo text m start n) after
-  unfolding withRow rowsGiven Filled
+  pub fill-bit : (n digits s : ℕ) (after : List ℕ) → u < n → rowDigitsAt text (digitsFor m) u at ≡ Digits digits → s ≡ hexadecimalValue (digitsFor m) text digits → ltb s (2 ^ m) ≡ false
+      → (BadBit ≡ rowsEnd (rowsTo text m start n)) × RowsLaid (rowsTo text m start n) after
+  unfolding withRow rowsEnd RowsLaid
   fill-bit n digits s after h e es b =
       let k : suc u + (n - suc u) ≡ n = omega arith in
       let q : rowsTo text m start (suc u) ≡ badBit = rw (step (Digits digits) e, ← es) (if-false _ _ _ b) in
       let r : rowsTo text m start n ≡ badBit = rw k at (bit-stays text m start u q (n - suc u)) in
       rw r (refl, tt)
 
-  pub fill-all : (End at ≡ rowsGiven (rowsTo text m start u)) × Filled (rowsTo text m start u) words
-  unfolding rowsGiven Filled
+  pub fill-all : (End at ≡ rowsEnd (rowsTo text m start u)) × RowsLaid (rowsTo text m start u) words
+  unfolding rowsEnd RowsLaid
   fill-all = rw (f .read) (refl, f .held)
 
 -- ---- the answer
 
-pub refused-is : (r : CrewRead) (k : ℕ) (buffer : List ℕ) → (r .code ≡ k) × (r .n ≡ 0) × (r .m ≡ 0) → given r buffer ≡ refusal k buffer
-unfolding given refusal
+pub refused-is : (r : CrewRead) (k : ℕ) (buffer : List ℕ) → (r .code ≡ k) × (r .n ≡ 0) × (r .m ≡ 0) → readResult r buffer ≡ readRefused k buffer
+unfolding readResult readRefused
 refused-is r k buffer e = rw (e .0, e .1, e .2) refl
 
 module _ (text buffer : List ℕ) (n m : ℕ) where
-  pub after-more : (o : Read) (at : ℕ) → End at ≡ rowsGiven o → at ≢ length text → refusal 10 buffer ≡ afterRows text buffer n m o
-  unfolding rowsGiven afterRows
+  pub after-more : (o : Read) (at : ℕ) → End at ≡ rowsEnd o → at ≢ length text → readRefused 10 buffer ≡ afterRows text buffer n m o
+  unfolding rowsEnd afterRows
   after-more (rowsRead rows end) at e h =
       let p : at ≡ end = cc in
       sym
-      (if-false (eqb end (length text)) (record { code = 0; n = n; m = m; words = laid rows }) (refusal 10 buffer)
+      (if-false (eqb end (length text)) (record { code = 0; n = n; m = m; words = laid rows }) (readRefused 10 buffer)
       (ne-eqb end (length text) (λ (q : end ≡ length text). h (p ∙ q))))
   after-more badForm at e h = refl
   after-more badBit at e h = let z : _≡_ {A = ℕ} 0 1 = cc in absurd (omega arith)
 
-  pub after-all : (o : Read) (at : ℕ) (words : List ℕ) → End at ≡ rowsGiven o → Filled o words → at ≡ length text
-      → _≡_ {A = Answer} (record { code = 0; n = n; m = m; words = words }) (afterRows text buffer n m o)
-  unfolding rowsGiven afterRows Filled
+  pub after-all : (o : Read) (at : ℕ) (words : List ℕ) → End at ≡ rowsEnd o → RowsLaid o words → at ≡ length text
+      → _≡_ {A = ReadReply} (record { code = 0; n = n; m = m; words = words }) (afterRows text buffer n m o)
+  unfolding rowsEnd afterRows RowsLaid
   after-all (rowsRead rows end) at words e f h =
       let p : at ≡ end = cc in
       rw f
       (sym
-      (if-true (eqb end (length text)) (record { code = 0; n = n; m = m; words = laid rows }) (refusal 10 buffer)
+      (if-true (eqb end (length text)) (record { code = 0; n = n; m = m; words = laid rows }) (readRefused 10 buffer)
       (eq-eqb end (length text) (sym p ∙ h))))
   after-all badForm at words e f h = let z : _≡_ {A = ℕ} 0 1 = cc in absurd (omega arith)
   after-all badBit at words e f h = let z : _≡_ {A = ℕ} 0 1 = cc in absurd (omega arith)
 
-  pub after-form : (o : Read) → BadForm ≡ rowsGiven o → refusal 10 buffer ≡ afterRows text buffer n m o
-  unfolding rowsGiven afterRows
+  pub after-form : (o : Read) → BadForm ≡ rowsEnd o → readRefused 10 buffer ≡ afterRows text buffer n m o
+  unfolding rowsEnd afterRows
   after-form (rowsRead rows end) e = let z : _≡_ {A = ℕ} 0 1 = cc in absurd (omega arith)
   after-form badForm e = refl
   after-form badBit e = let z : _≡_ {A = ℕ} 0 1 = cc in absurd (omega arith)
 
-  pub after-bit : (o : Read) → BadBit ≡ rowsGiven o → refusal 3 buffer ≡ afterRows text buffer n m o
-  unfolding rowsGiven afterRows
+  pub after-bit : (o : Read) → BadBit ≡ rowsEnd o → readRefused 3 buffer ≡ afterRows text buffer n m o
+  unfolding rowsEnd afterRows
   after-bit (rowsRead rows end) e = let z : _≡_ {A = ℕ} 0 1 = cc in absurd (omega arith)
   after-bit badForm e = let z : _≡_ {A = ℕ} 0 1 = cc in absurd (omega arith)
   after-bit badBit e = refl
 
 module _ (text buffer : List ℕ) where
-  pub wrong-buffer : length buffer ≢ 512 → refusal 3 buffer ≡ readCrew text buffer
+  pub wrong-buffer : length buffer ≢ 512 → readRefused 3 buffer ≡ readCrew text buffer
   unfolding readCrew
   wrong-buffer h = sym (if-stops _ _ _ (ne-eqb (length buffer) 512 h))
 
   module _ (b : length buffer ≡ 512) where
-    pub too-long : 16384 < length text → refusal 10 buffer ≡ readCrew text buffer
+    pub too-long : 16384 < length text → readRefused 10 buffer ≡ readCrew text buffer
     unfolding readCrew
     too-long h = sym (if-passes _ _ _ (eq-eqb (length buffer) 512 b) ∙ if-stops _ _ _ (lt-leb (length text) 16384 h))
 
@@ -178,10 +178,10 @@ module _ (text buffer : List ℕ) where
       unfolding afterHeader
       by-crew e = by-header e
 
-      pub by-malformed : headerAt text ≡ Malformed → refusal 10 buffer ≡ readCrew text buffer
+      pub by-malformed : headerAt text ≡ Malformed → readRefused 10 buffer ≡ readCrew text buffer
       unfolding afterHeader
       by-malformed e = by-header e
 
-      pub by-beyond : headerAt text ≡ Beyond → refusal 2 buffer ≡ readCrew text buffer
+      pub by-beyond : headerAt text ≡ Beyond → readRefused 2 buffer ≡ readCrew text buffer
       unfolding afterHeader
       by-beyond e = by-header e

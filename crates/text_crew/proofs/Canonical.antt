@@ -27,7 +27,7 @@ use Rattle.text_crew.specs.declared.header.Header.{Header}
 use Rattle.text_crew.specs.declared.header.Header.the-variants.{Crew, Malformed, Beyond}
 use Rattle.text_crew.specs.declared.row.Row.{Row}
 use Rattle.text_crew.specs.declared.row.Row.the-variants.{Digits, Broken}
-use Rattle.text_crew.specs.Reader.{headerAt, rowAt, Read, rowsRead, badForm, badBit, withRow, nextRow, rowsTo, laid, Answer, refusal, afterRows, readCrew}
+use Rattle.text_crew.specs.Reader.{headerAt, rowDigitsAt, Read, rowsRead, badForm, badBit, withRow, nextRow, rowsTo, laid, ReadReply, readRefused, afterRows, readCrew}
 use Rattle.model.proofs.Record.{withinLimits-iff}
 use Rattle.text_crew.proofs.Lines.{limits-kept, header-whole, row-whole}
 use Rattle.text_crew.proofs.Forms.{header-form, row-form}
@@ -104,7 +104,7 @@ module _ (text : List ℕ) (n m : ℕ) (l : So (withinLimits n m)) (h : So (hold
       ∙ ap (Crew n m) (sym (length-header n m))
 
 module _ (text : List ℕ) (m u at s : ℕ) (l : u < 1000) (b : s < 2 ^ m) (h : So (holds text at (rowLine m u s))) where
-  row-read : (rowAt text (digitsFor m) u at ≡ Digits (at + length (decimal u) + 1)) × (hexadecimalValue (digitsFor m) text (at + length (decimal u) + 1) ≡ s)
+  row-read : (rowDigitsAt text (digitsFor m) u at ≡ Digits (at + length (decimal u) + 1)) × (hexadecimalValue (digitsFor m) text (at + length (decimal u) + 1) ≡ s)
   unfolding rowLine
   row-read =
       let d : ℕ = digitsFor m in
@@ -119,7 +119,7 @@ module _ (text : List ℕ) (m u at s : ℕ) (l : u < 1000) (b : s < 2 ^ m) (h : 
         hex-reads (digitsFor m) text (at + length (decimal u) + 1) s small (e .0),
       )
 
-add-read : (text : List ℕ) (m u : ℕ) (xs : List ℕ) (p digits s : ℕ) → rowAt text (digitsFor m) u p ≡ Digits digits → hexadecimalValue (digitsFor m) text digits ≡ s → So (ltb s (2 ^ m))
+add-read : (text : List ℕ) (m u : ℕ) (xs : List ℕ) (p digits s : ℕ) → rowDigitsAt text (digitsFor m) u p ≡ Digits digits → hexadecimalValue (digitsFor m) text digits ≡ s → So (ltb s (2 ^ m))
     → nextRow text m u (rowsRead xs p) ≡ rowsRead (xs ++ (s ∷ [])) (digits + digitsFor m + 1)
 unfolding nextRow withRow
 add-read text m u xs p digits s e f c = rw (e, f) (if-true _ _ _ c)
@@ -195,7 +195,7 @@ same-lines m xs ys zero h = refl
 same-lines m xs ys (suc n) h = rw (same-lines m xs ys n (λ u l. h u (omega arith)), h n (omega arith)) refl
 
 -- a row that was read, written again
-module _ (text : List ℕ) (m u at digits s : ℕ) (e : rowAt text (digitsFor m) u at ≡ Digits digits) (es : s ≡ hexadecimalValue (digitsFor m) text digits) where
+module _ (text : List ℕ) (m u at digits s : ℕ) (e : rowDigitsAt text (digitsFor m) u at ≡ Digits digits) (es : s ≡ hexadecimalValue (digitsFor m) text digits) where
   row-written : So (holds text at (rowLine m u s)) × (digits ≡ at + length (decimal u) + 1)
   unfolding rowLine
   row-written =
@@ -235,7 +235,7 @@ none-written text m at rows end h e =
     }
 
 -- one row more, after those before it
-one-written : (text : List ℕ) (m at u : ℕ) (xs : List ℕ) (p digits s : ℕ) → RowsWritten text m at u xs p → rowAt text (digitsFor m) u p ≡ Digits digits
+one-written : (text : List ℕ) (m at u : ℕ) (xs : List ℕ) (p digits s : ℕ) → RowsWritten text m at u xs p → rowDigitsAt text (digitsFor m) u p ≡ Digits digits
     → s ≡ hexadecimalValue (digitsFor m) text digits → s < 2 ^ m → RowsWritten text m at (suc u) (xs ++ (s ∷ [])) (digits + digitsFor m + 1)
 unfolding rowLines
 one-written text m at u xs p digits s f e es b =
@@ -257,7 +257,7 @@ one-written text m at u xs p digits s f e es b =
 
 -- the ways to read one row more
 module _ (text : List ℕ) (m at u : ℕ) (rows : List ℕ) (end : ℕ) where
-  by-bits : (xs : List ℕ) (p digits : ℕ) → RowsWritten text m at u xs p → rowAt text (digitsFor m) u p ≡ Digits digits
+  by-bits : (xs : List ℕ) (p digits : ℕ) → RowsWritten text m at u xs p → rowDigitsAt text (digitsFor m) u p ≡ Digits digits
       → So (ltb (hexadecimalValue (digitsFor m) text digits) (2 ^ m))
       → rowsRead (xs ++ (hexadecimalValue (digitsFor m) text digits ∷ [])) (digits + digitsFor m + 1) ≡ rowsRead rows end
       → RowsWritten text m at (suc u) rows end
@@ -267,7 +267,7 @@ module _ (text : List ℕ) (m at u : ℕ) (rows : List ℕ) (end : ℕ) where
       let w : digits + digitsFor m + 1 ≡ end = cc in
       rw (v, w) at g
 
-  by-row : (xs : List ℕ) (p : ℕ) → RowsWritten text m at u xs p → (o : Row) → rowAt text (digitsFor m) u p ≡ o → withRow text m xs o ≡ rowsRead rows end
+  by-row : (xs : List ℕ) (p : ℕ) → RowsWritten text m at u xs p → (o : Row) → rowDigitsAt text (digitsFor m) u p ≡ o → withRow text m xs o ≡ rowsRead rows end
       → RowsWritten text m at (suc u) rows end
   unfolding withRow
   by-row xs p f (Digits digits) e k =
@@ -279,7 +279,7 @@ module _ (text : List ℕ) (m at u : ℕ) (rows : List ℕ) (end : ℕ) where
   by-rows : (o : Read) → ((xs : List ℕ) (p : ℕ) → o ≡ rowsRead xs p → RowsWritten text m at u xs p) → nextRow text m u o ≡ rowsRead rows end
       → RowsWritten text m at (suc u) rows end
   unfolding nextRow
-  by-rows (rowsRead xs p) f k = by-row xs p (f xs p refl) (rowAt text (digitsFor m) u p) refl k
+  by-rows (rowsRead xs p) f k = by-row xs p (f xs p refl) (rowDigitsAt text (digitsFor m) u p) refl k
   by-rows badForm f k = let z : _≡_ {A = ℕ} 0 1 = cc in absurd (omega arith)
   by-rows badBit f k = let z : _≡_ {A = ℕ} 0 1 = cc in absurd (omega arith)
 
@@ -317,10 +317,10 @@ pub record Accepted (text buffer : List ℕ) : Type 0 where
   pub within : So (rowsWithin permissions rows)
   pub canonical : text ≡ crewText users permissions rows
 
--- a refusal is no acceptance
-refused-not : (text buffer : List ℕ) (k : ℕ) → refusal (suc k) buffer ≡ readCrew text buffer → readCrew text buffer .code ≡ 0 → Accepted text buffer
-unfolding refusal
-refused-not text buffer k e z = let y : suc k ≡ 0 = ap (λ (x : Answer). x .code) e ∙ z in absurd (omega arith)
+-- a readRefused is no acceptance
+refused-not : (text buffer : List ℕ) (k : ℕ) → readRefused (suc k) buffer ≡ readCrew text buffer → readCrew text buffer .code ≡ 0 → Accepted text buffer
+unfolding readRefused
+refused-not text buffer k e z = let y : suc k ≡ 0 = ap (λ (x : ReadReply). x .code) e ∙ z in absurd (omega arith)
 
 module _ (text buffer : List ℕ) (z : readCrew text buffer .code ≡ 0) where
   all-rows : (n m at : ℕ) → headerAt text ≡ Crew n m at → (rows : List ℕ) (end : ℕ) → rowsTo text m at n ≡ rowsRead rows end
@@ -352,7 +352,7 @@ module _ (text buffer : List ℕ) (z : readCrew text buffer .code ≡ 0) where
   by-end n m at e (rowsRead rows end) r a =
       equal-or end (length text)
       (λ l. all-rows n m at e rows end r (sym (whole-read text buffer n m rows end l) ∙ a) l)
-      (λ d. refused-not text buffer 9 (sym (if-false (eqb end (length text)) (record { code = 0; n = n; m = m; words = laid rows }) (refusal 10 buffer) (ne-eqb end (length text) d)) ∙ a) z)
+      (λ d. refused-not text buffer 9 (sym (if-false (eqb end (length text)) (record { code = 0; n = n; m = m; words = laid rows }) (readRefused 10 buffer) (ne-eqb end (length text) d)) ∙ a) z)
   by-end n m at e badForm r a = refused-not text buffer 9 a z
   by-end n m at e badBit r a = refused-not text buffer 2 a z
 

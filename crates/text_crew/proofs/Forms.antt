@@ -19,7 +19,7 @@ use Rattle.text.proofs.Bytes.{holds-end}
 use Rattle.text_crew.specs.Format.{crewWord}
 use Rattle.text_crew.specs.declared.header.Header.the-variants.{Crew, Malformed, Beyond}
 use Rattle.text_crew.specs.declared.row.Row.the-variants.{Digits, Broken}
-use Rattle.text_crew.specs.Reader.{limited, headerEnd, headerRest, headerAt, rowRest, rowAt}
+use Rattle.text_crew.specs.Reader.{limited, headerEnd, headerRest, headerAt, rowRest, rowDigitsAt}
 
 -- ---- the header
 
@@ -112,15 +112,15 @@ row-some text d u at digits v next a e =
     })
     (λ k. λ (f : Broken ≡ Digits digits). let z : _≡_ {A = ℕ} 0 1 = cc in absurd (omega arith))
 
-pub row-form : (text : List ℕ) (d u at digits : ℕ) → rowAt text d u at ≡ Digits digits → RowForm text d u at digits
-unfolding rowAt
+pub row-form : (text : List ℕ) (d u at digits : ℕ) → rowDigitsAt text d u at ≡ Digits digits → RowForm text d u at digits
+unfolding rowDigitsAt
 row-form text d u at digits e = go (decimalAt text at) refl e
   where
     go : (o : Decimal) → decimalAt text at ≡ o → rowRest text d u o ≡ Digits digits → RowForm text d u at digits
     go (Number v next) a e = row-some text d u at digits v next a e
     go Nothing a e = absurd (row-none text d u digits e)
 
-module _ (text : List ℕ) (d u at digits : ℕ) (e : rowAt text d u at ≡ Digits digits) where
+module _ (text : List ℕ) (d u at digits : ℕ) (e : rowDigitsAt text d u at ≡ Digits digits) where
   pub row-has : So (hexadecimalAt d text digits)
   row-has = let r = row-form text d u at digits e in rw (r .place) (r .digits-there)
 

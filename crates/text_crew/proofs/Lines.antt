@@ -18,7 +18,7 @@ use Rattle.text.specs.Hexadecimal.{hexadecimalAt}
 use Rattle.text_crew.specs.Format.{crewWord}
 use Rattle.text_crew.specs.declared.header.Header.the-variants.{Crew, Malformed, Beyond}
 use Rattle.text_crew.specs.declared.row.Row.the-variants.{Digits, Broken}
-use Rattle.text_crew.specs.Reader.{limited, headerEnd, headerRest, headerAt, rowRest, rowAt}
+use Rattle.text_crew.specs.Reader.{limited, headerEnd, headerRest, headerAt, rowRest, rowDigitsAt}
 
 -- ---- what a test of `!f(..)` says of what f promises
 
@@ -77,8 +77,8 @@ module _ (text : List ℕ) where
 -- ---- a row, from the front
 
 module _ (text : List ℕ) (d u at : ℕ) where
-  pub row-number : decimalAt text at ≡ Nothing → Broken ≡ rowAt text d u at
-  unfolding rowAt rowRest
+  pub row-number : decimalAt text at ≡ Nothing → Broken ≡ rowDigitsAt text d u at
+  unfolding rowDigitsAt rowRest
   row-number a = rw a refl
 
   module _ {v next : ℕ} (a : decimalAt text at ≡ Number v next) where
@@ -86,11 +86,11 @@ module _ (text : List ℕ) (d u at : ℕ) where
     abbrev form : Bool
     form = eqb v u and holds text next comma and hexadecimalAt d text (next + 1) and holds text (next + 1 + d) lineEnd
 
-    row-by : rowAt text d u at ≡ (if form then Digits (next + 1) else Broken)
-    unfolding rowAt rowRest
+    row-by : rowDigitsAt text d u at ≡ (if form then Digits (next + 1) else Broken)
+    unfolding rowDigitsAt rowRest
     row-by = ap (rowRest text d u) a
 
-    row-fails : (v ≡ u → So (holds text next comma) → So (hexadecimalAt d text (next + 1)) → So (holds text (next + 1 + d) lineEnd) → ⊥) → Broken ≡ rowAt text d u at
+    row-fails : (v ≡ u → So (holds text next comma) → So (hexadecimalAt d text (next + 1)) → So (holds text (next + 1 + d) lineEnd) → ⊥) → Broken ≡ rowDigitsAt text d u at
     row-fails h =
         let no : form ≡ false =
         not-So form
@@ -99,18 +99,18 @@ module _ (text : List ℕ) (d u at : ℕ) where
         h (k .0 .0 .0) (k .0 .0 .1) (k .0 .1) (k .1)) in
         sym (row-by ∙ if-false _ _ _ no)
 
-    pub row-other : v ≢ u → Broken ≡ rowAt text d u at
+    pub row-other : v ≢ u → Broken ≡ rowDigitsAt text d u at
     row-other b = row-fails (λ e _ _ _. b e)
 
     module _ (b : v ≡ u) where
-      pub row-comma : holds text next comma ≡ false → Broken ≡ rowAt text d u at
+      pub row-comma : holds text next comma ≡ false → Broken ≡ rowDigitsAt text d u at
       row-comma c = row-fails (λ _ s _ _. So-not c s)
 
-      pub row-digits : holds text next comma ≡ true → hexadecimalAt d text (next + 1) ≡ false → Broken ≡ rowAt text d u at
+      pub row-digits : holds text next comma ≡ true → hexadecimalAt d text (next + 1) ≡ false → Broken ≡ rowDigitsAt text d u at
       row-digits c e = row-fails (λ _ _ s _. So-not e s)
 
-      pub row-end : holds text next comma ≡ true → hexadecimalAt d text (next + 1) ≡ true → holds text (next + 1 + d) lineEnd ≡ false → Broken ≡ rowAt text d u at
+      pub row-end : holds text next comma ≡ true → hexadecimalAt d text (next + 1) ≡ true → holds text (next + 1 + d) lineEnd ≡ false → Broken ≡ rowDigitsAt text d u at
       row-end c e f = row-fails (λ _ _ _ s. So-not f s)
 
-      pub row-whole : holds text next comma ≡ true → hexadecimalAt d text (next + 1) ≡ true → holds text (next + 1 + d) lineEnd ≡ true → Digits (next + 1) ≡ rowAt text d u at
+      pub row-whole : holds text next comma ≡ true → hexadecimalAt d text (next + 1) ≡ true → holds text (next + 1 + d) lineEnd ≡ true → Digits (next + 1) ≡ rowDigitsAt text d u at
       row-whole c e f = let ok : So form = simp reflect (((b, c), e), f) in sym (row-by ∙ if-true _ _ _ ok)

@@ -21,8 +21,8 @@ use Rattle.text_crew.specs.declared.header.Header.{Header}
 use Rattle.text_crew.specs.declared.header.Header.the-variants.{Crew, Malformed, Beyond}
 use Rattle.text_crew.specs.declared.row.Row.{Row}
 use Rattle.text_crew.specs.declared.row.Row.the-variants.{Digits, Broken}
-use Rattle.text_crew.specs.declared.rows.Rows.{Rows}
-use Rattle.text_crew.specs.declared.rows.Rows.the-variants.{End, BadForm, BadBit}
+use Rattle.text_crew.specs.declared.rows.RowsEnd.{RowsEnd}
+use Rattle.text_crew.specs.declared.rows.RowsEnd.the-variants.{End, BadForm, BadBit}
 
 -- "over 16,384 bytes", "a lent buffer of 512 words"
 abbrev pub longestText : ℕ
@@ -59,8 +59,8 @@ rowRest text d u (Number v next) =
 rowRest text d u Nothing = Broken
 
 -- where the digits of row u stand, if the line at place `at` has its form
-unfoldable pub rowAt : List ℕ → ℕ → ℕ → ℕ → Row
-rowAt text d u at = rowRest text d u (decimalAt text at)
+unfoldable pub rowDigitsAt : List ℕ → ℕ → ℕ → ℕ → Row
+rowDigitsAt text d u at = rowRest text d u (decimalAt text at)
 
 -- ---- the rows
 
@@ -78,7 +78,7 @@ withRow text m rows (Digits at) =
 withRow text m rows Broken = badForm
 
 unfoldable pub nextRow : List ℕ → ℕ → ℕ → Read → Read
-nextRow text m u (rowsRead rows at) = withRow text m rows (rowAt text (digitsFor m) u at)
+nextRow text m u (rowsRead rows at) = withRow text m rows (rowDigitsAt text (digitsFor m) u at)
 nextRow text m u badForm = badForm
 nextRow text m u badBit = badBit
 
@@ -89,52 +89,52 @@ rowsTo text m at (suc u) = nextRow text m u (rowsTo text m at u)
 
 -- ---- the answer
 
-pub record Answer : Type 0 where
+pub record ReadReply : Type 0 where
   pub code : ℕ
   pub n : ℕ
   pub m : ℕ
   pub words : List ℕ
 
--- "Every refusal returns zeros beside its number and leaves all buffers as lent."
-unfoldable pub refusal : ℕ → List ℕ → Answer
-refusal k buffer = record { code = k; n = 0; m = 0; words = buffer }
+-- "Every readRefused returns zeros beside its number and leaves all buffers as lent."
+unfoldable pub readRefused : ℕ → List ℕ → ReadReply
+readRefused k buffer = record { code = k; n = 0; m = 0; words = buffer }
 
 -- "the n rows, then zeros": word j of row u at 4 u + j
 unfoldable pub laid : List ℕ → List ℕ
 laid rows = tabulate bufferLength (regionWord 4 (λ u. getD rows u 0))
 
 -- after the rows, no more bytes
-unfoldable pub afterRows : List ℕ → List ℕ → ℕ → ℕ → Read → Answer
+unfoldable pub afterRows : List ℕ → List ℕ → ℕ → ℕ → Read → ReadReply
 afterRows text buffer n m (rowsRead rows at) =
-    if eqb at (length text) then record { code = 0; n = n; m = m; words = laid rows } else refusal 10 buffer
-afterRows text buffer n m badForm = refusal 10 buffer
-afterRows text buffer n m badBit = refusal 3 buffer
+    if eqb at (length text) then record { code = 0; n = n; m = m; words = laid rows } else readRefused 10 buffer
+afterRows text buffer n m badForm = readRefused 10 buffer
+afterRows text buffer n m badBit = readRefused 3 buffer
 
-unfoldable pub afterHeader : List ℕ → List ℕ → Header → Answer
+unfoldable pub afterHeader : List ℕ → List ℕ → Header → ReadReply
 afterHeader text buffer (Crew n m at) = afterRows text buffer n m (rowsTo text m at n)
-afterHeader text buffer Malformed = refusal 10 buffer
-afterHeader text buffer Beyond = refusal 2 buffer
+afterHeader text buffer Malformed = readRefused 10 buffer
+afterHeader text buffer Beyond = readRefused 2 buffer
 
 -- the reader, on a text and a lent buffer
-unfoldable pub readCrew : List ℕ → List ℕ → Answer
+unfoldable pub readCrew : List ℕ → List ℕ → ReadReply
 readCrew text buffer =
-    if isnt (eqb (length buffer) bufferLength) then refusal 3 buffer
-    else if isnt (leb (length text) longestText) then refusal 10 buffer
+    if isnt (eqb (length buffer) bufferLength) then readRefused 3 buffer
+    else if isnt (leb (length text) longestText) then readRefused 10 buffer
     else afterHeader text buffer (headerAt text)
 
 -- ---- what the code gives
 
-unfoldable pub given : CrewRead → List ℕ → Answer
-given r buffer = record { code = r .code; n = r .n; m = r .m; words = buffer }
+unfoldable pub readResult : CrewRead → List ℕ → ReadReply
+readResult r buffer = record { code = r .code; n = r .n; m = r .m; words = buffer }
 
 -- the code's answer for the rows
-unfoldable pub rowsGiven : Read → Rows
-rowsGiven (rowsRead rows at) = End at
-rowsGiven badForm = BadForm
-rowsGiven badBit = BadBit
+unfoldable pub rowsEnd : Read → RowsEnd
+rowsEnd (rowsRead rows at) = End at
+rowsEnd badForm = BadForm
+rowsEnd badBit = BadBit
 
 -- where all rows are read, the words hold them
-unfoldable pub Filled : Read → List ℕ → Type 0
-Filled (rowsRead rows at) words = words ≡ laid rows
-Filled badForm words = Unit {0}
-Filled badBit words = Unit {0}
+unfoldable pub RowsLaid : Read → List ℕ → Type 0
+RowsLaid (rowsRead rows at) words = words ≡ laid rows
+RowsLaid badForm words = Unit {0}
+RowsLaid badBit words = Unit {0}

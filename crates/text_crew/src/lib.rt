@@ -1,6 +1,6 @@
 // Reads a crew text into a lent buffer of 512 words. specs/ has the text's form and the order of its faults.
 ghost use mathlib.Core.Path.{_≡_};
-ghost use Rattle.text_crew.specs.Reader.{afterRows, given, readCrew, rowsTo};
+ghost use Rattle.text_crew.specs.Reader.{afterRows, readResult, readCrew, rowsTo};
 ghost use Prim.Native.Nat.{_≤_};
 ghost use lib.ListN.{length};
 
@@ -10,8 +10,11 @@ mod rows;
 
 use crate::header::Header;
 use crate::header::read_header;
-use crate::rows::Rows;
+use crate::rows::RowsEnd;
 use crate::rows::read_rows;
+use refusals::REFUSED_CREW;
+use refusals::REFUSED_LIMITS;
+use refusals::REFUSED_TEXT;
 use tables::copy;
 
 const BUFFER: usize = 512;
@@ -33,36 +36,36 @@ fn refused(code: u64) -> CrewRead
 }
 
 pub fn read_crew(text: &[u8], rows: &mut [u64]) -> CrewRead
-    ensures { λ r. ⌜ given r (now (rows .exit)) ≡ readCrew (now (text .entry)) (now (rows .entry)) ⌝ }
+    ensures { λ r. ⌜ readResult r (now (rows .exit)) ≡ readCrew (now (text .entry)) (now (rows .entry)) ⌝ }
 {
     if rows.len() != BUFFER {
-        return refused(3);
+        return refused(REFUSED_CREW);
     }
     if LONGEST < text.len() {
-        return refused(10);
+        return refused(REFUSED_TEXT);
     }
     match read_header(text) {
         Header::Crew { n, m, next } => fill(text, next, n, m, rows),
-        Header::Malformed => refused(10),
-        Header::Beyond => refused(2),
+        Header::Malformed => refused(REFUSED_TEXT),
+        Header::Beyond => refused(REFUSED_LIMITS),
     }
 }
 
 // The rows go into words of their own, and from there to the buffer when the whole text is in order.
 fn fill(text: &[u8], at: usize, n: u64, m: u64, rows: &mut [u64]) -> CrewRead
     requires { ⌜ (n ≤ 128) × (m ≤ 256) × (length (now rows) ≡ 512) ⌝ }
-    ensures { λ r. ⌜ given r (now (rows .exit)) ≡ afterRows (now (text .entry)) (now (rows .entry)) n m (rowsTo (now (text .entry)) m at n) ⌝ }
+    ensures { λ r. ⌜ readResult r (now (rows .exit)) ≡ afterRows (now (text .entry)) (now (rows .entry)) n m (rowsTo (now (text .entry)) m at n) ⌝ }
 {
     let mut words = [0u64; BUFFER];
     match read_rows(text, at, n as usize, m as usize, &mut words) {
-        Rows::End(end) => {
+        RowsEnd::End(end) => {
             if end == text.len() {
                 copy(rows, 0, &words);
                 return CrewRead { code: 0, n, m };
             }
-            refused(10)
+            refused(REFUSED_TEXT)
         }
-        Rows::BadForm => refused(10),
-        Rows::BadBit => refused(3),
+        RowsEnd::BadForm => refused(REFUSED_TEXT),
+        RowsEnd::BadBit => refused(REFUSED_CREW),
     }
 }

@@ -1,6 +1,6 @@
 // One row: `u,h`.
 ghost use mathlib.Core.Path.{_≡_};
-ghost use Rattle.text_crew.specs.Reader.{rowAt};
+ghost use Rattle.text_crew.specs.Reader.{rowDigitsAt};
 use text::Decimal;
 use text::Field;
 use text::read_decimal;
@@ -16,7 +16,7 @@ pub enum Row {
 
 // Row u at place `at`, its set of d digits.
 pub fn read_row(text: &[u8], at: usize, u: usize, d: usize) -> Row
-    ensures { λ r. ⌜ r ≡ rowAt (now (text .entry)) d u at ⌝ }
+    ensures { λ r. ⌜ r ≡ rowDigitsAt (now (text .entry)) d u at ⌝ }
 {
     let Decimal::Number { value, next } = read_decimal(text, at) else {
         return Row::Broken;

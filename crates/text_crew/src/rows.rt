@@ -2,14 +2,14 @@
 ghost use mathlib.Core.Path.{_≡_};
 ghost use Prim.Native.Nat.{_≤_};
 ghost use mathlib.Core.List.{[]};
-ghost use Rattle.text_crew.specs.Reader.{Filled, laid, rowsGiven, rowsTo};
+ghost use Rattle.text_crew.specs.Reader.{RowsLaid, laid, rowsEnd, rowsTo};
 use crate::row::Row;
 use crate::row::read_row;
 use sets::Set256;
 use tables::store256;
 use text::hexadecimal_set;
 
-pub enum Rows {
+pub enum RowsEnd {
     // the place after the last row
     End(usize),
     BadForm,
@@ -18,9 +18,9 @@ pub enum Rows {
 }
 
 // Reads n rows from place `start` on into empty words, which are of use only where all rows are read.
-pub fn read_rows(text: &[u8], start: usize, n: usize, m: usize, words: &mut [u64]) -> Rows
+pub fn read_rows(text: &[u8], start: usize, n: usize, m: usize, words: &mut [u64]) -> RowsEnd
     requires { ⌜ (n ≤ 128) × (m ≤ 256) × (now words ≡ laid []) ⌝ }
-    ensures { λ r. ⌜ (r ≡ rowsGiven (rowsTo (now (text .entry)) m start n)) × Filled (rowsTo (now (text .entry)) m start n) (now (words .exit)) ⌝ }
+    ensures { λ r. ⌜ (r ≡ rowsEnd (rowsTo (now (text .entry)) m start n)) × RowsLaid (rowsTo (now (text .entry)) m start n) (now (words .exit)) ⌝ }
 {
     let d = (m + 3) / 4;
     let allowed = Set256::below(m);
@@ -28,15 +28,15 @@ pub fn read_rows(text: &[u8], start: usize, n: usize, m: usize, words: &mut [u64
     let mut u = 0;
     while u < n {
         let Row::Digits(digits) = read_row(text, at, u, d) else {
-            return Rows::BadForm;
+            return RowsEnd::BadForm;
         };
         let s = hexadecimal_set(text, digits, d);
         if !s.is_subset(allowed) {
-            return Rows::BadBit;
+            return RowsEnd::BadBit;
         }
         store256(words, 4 * u, s);
         at = digits + d + 1;
         u += 1;
     }
-    Rows::End(at)
+    RowsEnd::End(at)
 }

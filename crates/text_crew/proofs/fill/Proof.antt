@@ -2,7 +2,7 @@
 -- Assumes nothing.
 use Rattle.text_crew.proofs.Answers.{refused-is, after-more, after-all, after-form, after-bit}
 use Rattle.text_crew.proofs.Laid.{blank}
-use Rattle.text_crew.specs.Reader.{given}
+use Rattle.text_crew.specs.Reader.{readResult}
 use mathlib.Core.Path.{sym, _∙_}
 use borrow.Author.Needs.{needs}
 use native.Mathlib.Omega.{arith}
@@ -29,7 +29,7 @@ same-length : tie.Need-same-length
 same-length c = search needs
 
 returns : tie.Need-returns
-unfolding given
+unfolding readResult
 returns c = rw (c .before .before .copy .ensures ∙ putAt-whole _ _ (search needs)) (after-all _ _ _ _ _ _ _ (sym (c .before .before .before .before .before .before .before .end .given .1) ∙ c .before .before .before .before .before .before .before .before .before .before .read-rows .ensures .0) (c .before .before .before .before .before .before .before .before .before .before .read-rows .ensures .1) (c .before .before .before .before .before .if1 .taken))
 
 refused-requires : tie.Need-refused-requires

@@ -1,4 +1,4 @@
--- Each return is one way through `rowAt`.
+-- Each return is one way through `rowDigitsAt`.
 -- Assumes nothing.
 use borrow.Author.Needs.{needs}
 use mathlib.Core.Path.{sym, _∙_}
