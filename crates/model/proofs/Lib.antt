@@ -12,6 +12,7 @@ pub mod Lists
 pub mod Record
 pub mod Altered
 pub mod PassOrder
+pub mod Passes
 pub mod Elimination
 pub mod Review
 pub mod Bounds

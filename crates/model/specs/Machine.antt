@@ -108,34 +108,37 @@ takeUp ρ w t k r =
     else if ltb (t .denominator * q') (t .numerator * r .reference) then struck k q' r
     else kept r
 
--- the roles of `todo`, of which there are `left`, taken up in the order of the key
-unfoldable pub takeUpAll : Roles → Weights → Tolerance → (ℕ → ℕ) → ℕ → ℕ → Run → Run
-takeUpAll ρ w t key zero todo r = r
-takeUpAll ρ w t key (suc left) todo r =
-    let k = foremost (candidateCount ρ) key todo in
-    takeUpAll ρ w t key left (todo ∖ single k) (takeUp ρ w t k r)
+-- ---- the passes, over any function `take` that takes one role up
 
--- a pass "orders the worklist from the state at its start"
-unfoldable pub pass : Roles → Weights → Tolerance → Run → Run
-pass ρ w t r =
+-- the roles of `todo`, of which there are `left`, taken up in the order of the key
+unfoldable pub takeUpAll : Roles → (ℕ → Run → Run) → (ℕ → ℕ) → ℕ → ℕ → Run → Run
+takeUpAll ρ take key zero todo r = r
+takeUpAll ρ take key (suc left) todo r =
+    let k = foremost (candidateCount ρ) key todo in
+    takeUpAll ρ take key left (todo ∖ single k) (take k r)
+
+-- a pass "orders the worklist from the state at its start": by redundancy
+unfoldable pub pass : Roles → (ℕ → Run → Run) → Run → Run
+pass ρ take r =
     let s = strikables ρ (r .standing) in
-    takeUpAll ρ w t (redundancy ρ s) (ones (r .worklist)) (r .worklist) r
+    takeUpAll ρ take (redundancy ρ s) (ones (r .worklist)) (r .worklist) r
 
 -- "A pass runs while the worklist is nonempty and, after the first, only if the pass before struck something." Each pass but the last
 -- strikes a role, so c + 1 passes are enough.
-unfoldable pub passes : Roles → Weights → Tolerance → ℕ → Run → Run
-passes ρ w t zero r = r
-passes ρ w t (suc fuel) r =
-    let next = pass ρ w t r in
-    let rest = passes ρ w t fuel next in
+unfoldable pub passes : Roles → (ℕ → Run → Run) → ℕ → Run → Run
+passes ρ take zero r = r
+passes ρ take (suc fuel) r =
+    let next = pass ρ take r in
+    let rest = passes ρ take fuel next in
     if eqb (r .worklist) 0 then r else if eqb (next .changed) (r .changed) then next else rest
 
--- "The worklist begins as all strikable roles."
+-- a run that begins from R with this worklist: q is the quality of R, and nothing has been taken up
 unfoldable pub begin : Roles → Weights → ℕ → ℕ → Run
 begin ρ w worklist R = record { standing = R; worklist = worklist; reference = quality ρ w R; changed = 0; examined = 0 }
 
+-- Eliminate, from R: "The worklist begins as all strikable roles."
 unfoldable pub eliminated : Roles → Weights → Tolerance → ℕ → Run
-eliminated ρ w t R = passes ρ w t (suc (candidateCount ρ)) (begin ρ w (strikables ρ R) R)
+eliminated ρ w t R = passes ρ (takeUp ρ w t) (suc (candidateCount ρ)) (begin ρ w (strikables ρ R) R)
 
 -- ---- review
 
@@ -168,6 +171,7 @@ reviewPasses ρ w (suc fuel) r =
     let rest = reviewPasses ρ w fuel next in
     if eqb (next .changed) (r .changed) then next else rest
 
+-- Review, from R: it needs no worklist
 unfoldable pub reviewed : Roles → Weights → ℕ → Run
 reviewed ρ w R = reviewPasses ρ w (suc (candidateCount ρ)) (begin ρ w 0 R)
 
