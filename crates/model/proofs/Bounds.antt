@@ -15,49 +15,48 @@ use Rattle.sets.proofs.Truth.{not-So, and-iff, leb-iff}
 use Rattle.sets.proofs.Items.{below-of-items}
 use Rattle.sets.proofs.Counts.{total-suc, total-≤, total-bound, total-zero}
 use Rattle.model.specs.Hierarchy.{Roles, candidateCount, immediateJuniors, directPermissions, directMembers, building}
-use Rattle.model.specs.Quality.{Weights, Counts, weightsAllowed, counted, counts, weigh}
-use Rattle.model.specs.Machine.{Tolerance, toleranceAllowed}
+use Rattle.model.specs.Quality.{mostWeight, mostDenominator, Weights, Counts, weightsAllowed, counted, counts, weigh, Tolerance, toleranceAllowed}
 use Rattle.model.proofs.Reading.{Ordered, immediate-iff, junior-iff}
 use Rattle.model.proofs.Building.{senior-lower}
 use Rattle.model.proofs.Record.{directPermissions-lt, directMembers-lt}
 
 pub weightsAllowed-iff : (w : Weights)
-    → So (weightsAllowed w) ↔ ((w .perRole ≤ 1000) × (w .perMember ≤ 1000) × (w .perPermission ≤ 1000) × (w .perLink ≤ 1000))
+    → So (weightsAllowed w) ↔ ((w .perRole ≤ mostWeight) × (w .perMember ≤ mostWeight) × (w .perPermission ≤ mostWeight) × (w .perLink ≤ mostWeight))
 unfolding weightsAllowed
 weightsAllowed-iff w =
-    let t1 = leb (w .perRole) 1000 in
-    let t2 = leb (w .perMember) 1000 in
-    let t3 = leb (w .perPermission) 1000 in
-    let t4 = leb (w .perLink) 1000 in (
+    let t1 = leb (w .perRole) mostWeight in
+    let t2 = leb (w .perMember) mostWeight in
+    let t3 = leb (w .perPermission) mostWeight in
+    let t4 = leb (w .perLink) mostWeight in (
       λ h.
           let a = and-iff (t1 and t2 and t3) t4 .0 h in
           let b = and-iff (t1 and t2) t3 .0 (a .0) in
           let d = and-iff t1 t2 .0 (b .0) in
-          (leb-iff (w .perRole) 1000 .0 (d .0), leb-iff (w .perMember) 1000 .0 (d .1), leb-iff (w .perPermission) 1000 .0 (b .1), leb-iff (w .perLink) 1000 .0 (a .1)),
+          (leb-iff (w .perRole) mostWeight .0 (d .0), leb-iff (w .perMember) mostWeight .0 (d .1), leb-iff (w .perPermission) mostWeight .0 (b .1), leb-iff (w .perLink) mostWeight .0 (a .1)),
       λ f.
           and-iff (t1 and t2 and t3) t4 .1 (
             and-iff (t1 and t2) t3 .1
-                (and-iff t1 t2 .1 (leb-iff (w .perRole) 1000 .1 (f .0), leb-iff (w .perMember) 1000 .1 (f .1)), leb-iff (w .perPermission) 1000 .1 (f .2)),
-            leb-iff (w .perLink) 1000 .1 (f .3),
+                (and-iff t1 t2 .1 (leb-iff (w .perRole) mostWeight .1 (f .0), leb-iff (w .perMember) mostWeight .1 (f .1)), leb-iff (w .perPermission) mostWeight .1 (f .2)),
+            leb-iff (w .perLink) mostWeight .1 (f .3),
           ),
     )
 
 -- "b from 1 to 1,000, and a/b from 1 to 2"
 pub tolerance-iff : (t : Tolerance)
-    → So (toleranceAllowed t) ↔ ((1 ≤ t .denominator) × (t .denominator ≤ 1000) × (t .denominator ≤ t .numerator) × (t .numerator ≤ 2 * t .denominator))
+    → So (toleranceAllowed t) ↔ ((1 ≤ t .denominator) × (t .denominator ≤ mostDenominator) × (t .denominator ≤ t .numerator) × (t .numerator ≤ 2 * t .denominator))
 unfolding toleranceAllowed
 tolerance-iff t =
     let a = t .numerator in
     let b = t .denominator in (
       λ h.
-          let x = and-iff (leb 1 b and leb b 1000 and leb b a) (leb a (2 * b)) .0 h in
-          let y = and-iff (leb 1 b and leb b 1000) (leb b a) .0 (x .0) in
-          let z = and-iff (leb 1 b) (leb b 1000) .0 (y .0) in
-          (leb-iff 1 b .0 (z .0), leb-iff b 1000 .0 (z .1), leb-iff b a .0 (y .1), leb-iff a (2 * b) .0 (x .1)),
+          let x = and-iff (leb 1 b and leb b mostDenominator and leb b a) (leb a (2 * b)) .0 h in
+          let y = and-iff (leb 1 b and leb b mostDenominator) (leb b a) .0 (x .0) in
+          let z = and-iff (leb 1 b) (leb b mostDenominator) .0 (y .0) in
+          (leb-iff 1 b .0 (z .0), leb-iff b mostDenominator .0 (z .1), leb-iff b a .0 (y .1), leb-iff a (2 * b) .0 (x .1)),
       λ f.
-          and-iff (leb 1 b and leb b 1000 and leb b a) (leb a (2 * b)) .1 (
-            and-iff (leb 1 b and leb b 1000) (leb b a) .1
-                (and-iff (leb 1 b) (leb b 1000) .1 (leb-iff 1 b .1 (f .0), leb-iff b 1000 .1 (f .1)), leb-iff b a .1 (f .2)),
+          and-iff (leb 1 b and leb b mostDenominator and leb b a) (leb a (2 * b)) .1 (
+            and-iff (leb 1 b and leb b mostDenominator) (leb b a) .1
+                (and-iff (leb 1 b) (leb b mostDenominator) .1 (leb-iff 1 b .1 (f .0), leb-iff b mostDenominator .1 (f .1)), leb-iff b a .1 (f .2)),
             leb-iff a (2 * b) .1 (f .3),
           ),
     )

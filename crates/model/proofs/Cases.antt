@@ -5,10 +5,10 @@ use mathlib.Core.List.{List, [], _∷_}
 use Prim.Native.Nat.{ℕ}
 use Rattle.model.specs.Candidates.{candidates}
 use Rattle.model.specs.Hierarchy.{Roles, immediateJuniors, directPermissions, directMembers}
-use Rattle.model.specs.Quality.{Weights, quality}
+use Rattle.model.specs.Quality.{Weights, quality, Tolerance}
 use Rattle.model.specs.Lists.{tabulate}
 use Rattle.model.specs.State.{State, rolesOf, fresh}
-use Rattle.model.specs.Machine.{Tolerance, answer, stateAfter, answersTo}
+use Rattle.model.specs.Machine.{answer, stateAfter, answersTo}
 use Rattle.model.specs.Machine.Call.{strike, restore, eliminate, review}
 use Rattle.model.proofs.Everything.{everything}
 

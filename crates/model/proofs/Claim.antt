@@ -6,7 +6,7 @@ use mathlib.Core.Logic.{_↔_, _≢_}
 use mathlib.Core.List.{List, [], _∷_, _++_}
 use Prim.Native.Nat.{ℕ, _<_}
 use lib.Dec.{eqb}
-use lib.ListN.{length, getD}
+use lib.ListN.{getD}
 use Rattle.sets.specs.Truth.{isnt, if_then_else_}
 use Rattle.sets.specs.Sets.{has, _∪_, _∖_, single}
 use Rattle.sets.proofs.Truth.{by-test, So-not, not-So, isnt-iff, eqb-iff, if-true, if-false}
@@ -15,7 +15,7 @@ use Rattle.model.specs.Hierarchy.{candidateCount, building}
 use Rattle.model.specs.Chains.{link, Chain, other, Authorised}
 use Rattle.model.specs.Coverage.{grant}
 use Rattle.model.specs.State.{State, rolesOf, standingNow}
-use Rattle.model.specs.Record.{recordLength, built, stateOf, rowsOf, sound}
+use Rattle.model.specs.Record.{built, stateOf, rowsOf, sound}
 use Rattle.model.specs.Altered.{Altered}
 use Rattle.model.specs.Machine.{Call, Answer, Outcome, refusal, accepted, step, stateAfter, answersTo}
 use Rattle.model.specs.Machine.Call.{strike, restore}
@@ -24,8 +24,9 @@ use Rattle.model.specs.Claim.{wordsAfter, answersGiven, Kept}
 use Rattle.model.proofs.Chains.{may-iff}
 use Rattle.model.proofs.Building.{building-below, granted-may, may-possible, no-return, no-replacement}
 use Rattle.model.proofs.Record.{sound-iff, sound-built, state-back, rows-back, built-sound}
+use Rattle.model.proofs.Refusals.{unfit-iff, restore-iff}
 use Rattle.model.proofs.Altered.{strike-altered, restore-altered}
-use Rattle.model.proofs.Steps.{state-append, limits-ordered, roles-now, standing-now, now-now, now-same, step-accepted, step-refused, step-code, restore-accepted, Fit, step-fit, after-fit, after-rows}
+use Rattle.model.proofs.Steps.{state-append, limits-ordered, roles-now, standing-now, now-now, now-same, step-accepted, step-refused, step-code, Fit, step-fit, after-fit, after-rows}
 
 -- a sound record's state is within the limits and covers each grant, and conversely
 pub sound-fit : (ws : List ℕ) → So (sound ws) → Fit (stateOf ws)
@@ -34,14 +35,6 @@ sound-fit ws h = let a = sound-iff ws .0 h in record { limits = a .1; covers-all
 pub fit-sound : (st : State) → Fit st → So (sound (built st))
 fit-sound st f = built-sound st (f .limits) (f .covers-all)
 
-pub sound-unfit : (ws : List ℕ) → So (sound ws) → unfit ws ≡ 0
-unfolding unfit
-sound-unfit ws h =
-    let e = sound-iff ws .0 h .0 in
-    let t = eqb (length ws) recordLength in
-    if-false (isnt t) 1 _ (not-So (isnt t) (λ x. isnt-iff t .0 x (eqb-iff (length ws) recordLength .1 e)))
-    ∙ if-false (isnt (sound ws)) 5 0 (not-So (isnt (sound ws)) (λ x. isnt-iff (sound ws) .0 x h))
-
 -- on a sound record a call answers as the machine does, and leaves what building afresh from the machine's state gives
 module _ (ws : List ℕ) (h : So (sound ws)) (call : Call) where
   edit-sound : edit ws call
@@ -49,7 +42,7 @@ module _ (ws : List ℕ) (h : So (sound ws)) (call : Call) where
   unfolding edit
   edit-sound =
       let t = eqb (unfit ws) 0 in
-      if-false (isnt t) _ _ (not-So (isnt t) (λ x. isnt-iff t .0 x (eqb-iff (unfit ws) 0 .1 (sound-unfit ws h))))
+      if-false (isnt t) _ _ (not-So (isnt t) (λ x. isnt-iff t .0 x (eqb-iff (unfit ws) 0 .1 (unfit-iff ws .1 h))))
 
   pub edit-given : edit ws call .given ≡ step (stateOf ws) call .given
   edit-given = ap (λ (e : Edited). e .given) edit-sound
@@ -130,7 +123,7 @@ pub restore-words : (st : State) (k : ℕ) → Fit st → refusal st (restore k)
 unfolding accepted
 restore-words st k f e =
     let s = step-accepted st (restore k) e in
-    let a = restore-accepted st k e in
+    let a = restore-iff st k .0 e in
     let full = standingNow st (st .standing ∪ single k) in
     let f' : Fit full = rw s at (step-fit st (restore k) f) in
     let back : standingNow full (full .standing ∖ single k) ≡ st =

@@ -15,8 +15,8 @@ use Rattle.sets.proofs.Order.{∖-iff, ∖-lt, single-iff, subset-iff, subset-r
 use Rattle.sets.proofs.Counts.{ones-without, ones-subset}
 use Rattle.model.specs.Hierarchy.{Roles, candidateCount}
 use Rattle.model.specs.Coverage.{strikable, strikables}
-use Rattle.model.specs.Quality.{Weights, quality}
-use Rattle.model.specs.Machine.{Tolerance, Run, dropped, struck, kept, takeUp, passes, begin, eliminated}
+use Rattle.model.specs.Quality.{Weights, quality, Tolerance}
+use Rattle.model.specs.Machine.{Run, dropped, struck, kept, takeUp, passes, begin, eliminated}
 use Rattle.model.proofs.Reading.{strikables-iff, strikable-stands}
 use Rattle.model.proofs.Changes.{strikable-more}
 use Rattle.model.proofs.Passes.{triangle-mono, triangle-is, Rules, passes-end, passes-fuel, passes-examined}

@@ -10,17 +10,20 @@ use Rattle.model.specs.Candidates.{place, admit, admitMeets, addRow, min
 use Rattle.model.specs.Hierarchy.{candidateCount, permissionSet, authorisedUsers, senior, immediatelySenior, immediateJuniors, directPermissions, directMembers, building}
 use Rattle.model.specs.Chains.{link, other, onward, follow, reached, directRoles, rolesReached, may}
 use Rattle.model.specs.Coverage.{grant, covers, covered, allCovered, spared, strikable, strikables}
-use Rattle.model.specs.Quality.{weightsAllowed, counted, counts, weigh, quality}
+use Rattle.model.specs.Quality.{weightsAllowed, counted, counts, weigh, quality, toleranceAllowed}
 use Rattle.model.specs.State.{rolesOf, standingNow, fresh, withinLimits, rowsWithin}
 use Rattle.model.specs.Record.{headerWord, regionWord, wordAt, built, stateOf, rowsOf, stateSound, sound}
-use Rattle.model.specs.Machine.{least, coverers, redundancy, before, first, foremost, toleranceAllowed, dropped, struck, kept, takeUp, takeUpAll, pass, passes, begin, eliminated, restored, tryRestore, reviewTo, reviewPasses, reviewed, answer, refusal, accepted, step, stateAfter, answersTo}
+use Rattle.model.specs.Refusals.{_unless_, _orElse_, lengthRefusal, soundnessRefusal, limitsRefusal, crewSizeRefusal, crewRowsRefusal, crewRefusal, candidatesRefusal, roleRefusal, pairRefusal, absentRefusal, standingRefusal, strikeRefusal, weightsRefusal, toleranceRefusal}
+use Rattle.model.specs.Machine.{least, coverers, redundancy, before, first, foremost, dropped, struck, kept, takeUp, takeUpAll, pass, passes, begin, eliminated, restored, tryRestore, reviewTo, reviewPasses, reviewed, answer, refusal, accepted, step, stateAfter, answersTo}
 
 unfoldable pub everything : ℕ
 unfolding ones onesIn _and_ _or_ _implies_ isnt if_then_else_ bit any all none total has _∩_ _∪_ _∖_ single subset properSubset collect value word
     tabulate elems setAt rowsAt place admit admitMeets addRow minedTo candidates candidateCount permissionSet authorisedUsers senior
     immediatelySenior immediateJuniors directPermissions directMembers building link other onward follow reached directRoles rolesReached may
     grant covers covered allCovered spared strikable strikables weightsAllowed counted counts weigh quality rolesOf standingNow fresh
-    withinLimits rowsWithin headerWord regionWord wordAt built stateOf rowsOf stateSound sound least coverers redundancy before first foremost
+    withinLimits rowsWithin headerWord regionWord wordAt built stateOf rowsOf stateSound sound _unless_ _orElse_ lengthRefusal
+    soundnessRefusal limitsRefusal crewSizeRefusal crewRowsRefusal crewRefusal candidatesRefusal roleRefusal pairRefusal absentRefusal standingRefusal
+    strikeRefusal weightsRefusal toleranceRefusal least coverers redundancy before first foremost
     toleranceAllowed dropped struck kept takeUp takeUpAll pass passes begin eliminated restored tryRestore reviewTo reviewPasses reviewed
     answer refusal accepted step stateAfter answersTo
 everything = 0

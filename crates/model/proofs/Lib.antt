@@ -11,6 +11,7 @@ pub mod Restoring
 pub mod Lists
 pub mod Record
 pub mod Altered
+pub mod Refusals
 pub mod PassOrder
 pub mod Passes
 pub mod Elimination

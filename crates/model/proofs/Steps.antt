@@ -2,29 +2,29 @@
 -- a review a list of accepted restorations, with the same states.
 -- Assumes nothing.
 use mathlib.Core.Path.{_≡_, refl, sym, _∙_, ap}
-use mathlib.Core.Bool.{Bool, true, false, So}
+use mathlib.Core.Bool.{true, So}
 use mathlib.Core.Logic.{_≢_}
 use mathlib.Core.List.{List, [], _∷_, _++_, map}
 use Prim.Native.Nat.{ℕ, zero, suc, _+_, _<_, _≤_, _^_}
 use native.Mathlib.Omega.{arith}
-use lib.Dec.{eqb, ltb}
+use lib.Dec.{eqb}
 use lib.ListN.{length, getD, length-append}
-use Rattle.sets.specs.Truth.{isnt, if_then_else_}
-use Rattle.sets.specs.Sets.{has, _∪_, _∖_, single, collect}
-use Rattle.sets.proofs.Truth.{by-test, So-not, not-So, isnt-iff, eqb-iff, ltb-iff, if-true, if-false}
+use Rattle.sets.specs.Sets.{_∪_, _∖_, single, collect}
+use Rattle.sets.proofs.Truth.{by-test, So-not, not-So, eqb-iff, if-true, if-false}
 use Rattle.sets.proofs.Items.{has-zero}
 use Rattle.sets.proofs.Order.{subset-refl, ∖-lt, ∪-lt, single-lt, collect-lt, collect-iff}
 use Rattle.model.specs.Candidates.{candidates}
 use Rattle.model.specs.Hierarchy.{Roles, candidateCount, permissionSet}
-use Rattle.model.specs.Coverage.{grant, allCovered, strikable}
-use Rattle.model.specs.Quality.{Weights}
+use Rattle.model.specs.Coverage.{grant, allCovered}
+use Rattle.model.specs.Quality.{Weights, Tolerance}
 use Rattle.model.specs.State.{State, rolesOf, standingNow, fresh}
-use Rattle.model.specs.Machine.{Call, Tolerance, Outcome, answer, refusal, accepted, step, stateAfter, eliminated, reviewed}
+use Rattle.model.specs.Machine.{Call, Outcome, answer, refusal, accepted, step, stateAfter, eliminated, reviewed}
 use Rattle.model.specs.Machine.Call.{strike, restore, eliminate, review}
 use Rattle.model.proofs.Candidates.{proper-lower, row-candidate}
 use Rattle.model.proofs.Reading.{Ordered, user-iff, covers-iff, covered-iff, allCovered-iff, strikable-stands}
 use Rattle.model.proofs.Changes.{struck-covered, restored-covered}
 use Rattle.model.specs.Record.{Limits}
+use Rattle.model.proofs.Refusals.{strike-iff, restore-iff}
 use Rattle.model.proofs.Elimination.{Strikes, eliminated-going}
 use Rattle.model.proofs.Review.{Restores, reviewed-going}
 
@@ -83,49 +83,6 @@ step-code st call =
     (λ h. let e = eqb-iff (refusal st call) 0 .0 h in rw (step-accepted st call e) (sym e))
     (λ h. rw (step-refused st call (λ e. So-not h (eqb-iff (refusal st call) 0 .1 e))) refl)
 
--- a test of a refusal that did not strike, and the tests behind it
-passed : (t : Bool) (n rest : ℕ) → n ≢ 0 → (if isnt t then n else rest) ≡ 0 → So t × (rest ≡ 0)
-passed t n rest d e =
-    by-test t (λ h. (h, sym (if-false (isnt t) n rest (not-So (isnt t) (λ x. isnt-iff t .0 x h))) ∙ e))
-    (λ h. absurd (d (sym (if-true (isnt t) n rest (isnt-iff t .1 (So-not h))) ∙ e)))
-
-refused-by : (t : Bool) (n : ℕ) → n ≢ 0 → (if t then n else 0) ≡ 0 → t ≡ false
-refused-by t n d e = by-test t (λ h. absurd (d (sym (if-true t n 0 h) ∙ e))) (λ h. h)
-
-pub strike-accepted : (st : State) (k : ℕ) → refusal st (strike k) ≡ 0
-    → (k < candidateCount (rolesOf st)) × So (has (st .standing) k) × So (strikable (rolesOf st) (st .standing) k)
-unfolding refusal
-strike-accepted st k e =
-    let c = candidateCount (rolesOf st) in
-    let a = passed (ltb k c) 6 _ (λ x. let z : 6 ≡ 0 = x in let w : ⊥ = omega arith in w) e in
-    let b = passed (has (st .standing) k) 7 _ (λ x. let z : 7 ≡ 0 = x in let w : ⊥ = omega arith in w) (a .1) in
-    let d = passed (strikable (rolesOf st) (st .standing) k) 8 0 (λ x. let z : 8 ≡ 0 = x in let w : ⊥ = omega arith in w) (b .1) in
-    (ltb-iff k c .0 (a .0), b .0, d .0)
-
-pub restore-accepted : (st : State) (k : ℕ) → refusal st (restore k) ≡ 0 → (k < candidateCount (rolesOf st)) × (has (st .standing) k ≡ false)
-unfolding refusal
-restore-accepted st k e =
-    let c = candidateCount (rolesOf st) in
-    let a = passed (ltb k c) 6 _ (λ x. let z : 6 ≡ 0 = x in let w : ⊥ = omega arith in w) e in
-    (ltb-iff k c .0 (a .0), refused-by (has (st .standing) k) 7 (λ x. let z : 7 ≡ 0 = x in let w : ⊥ = omega arith in w) (a .1))
-
--- and the other way round
-pub strike-accepts : (st : State) (k : ℕ) → k < candidateCount (rolesOf st) → So (has (st .standing) k) → So (strikable (rolesOf st) (st .standing) k)
-    → refusal st (strike k) ≡ 0
-unfolding refusal
-strike-accepts st k l h s =
-    let c = candidateCount (rolesOf st) in
-    if-false (isnt (ltb k c)) 6 _ (not-So (isnt (ltb k c)) (λ x. isnt-iff (ltb k c) .0 x (ltb-iff k c .1 l)))
-    ∙ if-false (isnt (has (st .standing) k)) 7 _ (not-So (isnt (has (st .standing) k)) (λ x. isnt-iff (has (st .standing) k) .0 x h))
-    ∙ if-false (isnt (strikable (rolesOf st) (st .standing) k)) 8 0
-    (not-So (isnt (strikable (rolesOf st) (st .standing) k)) (λ x. isnt-iff (strikable (rolesOf st) (st .standing) k) .0 x s))
-
-pub restore-accepts : (st : State) (k : ℕ) → k < candidateCount (rolesOf st) → has (st .standing) k ≡ false → refusal st (restore k) ≡ 0
-unfolding refusal
-restore-accepts st k l h =
-    let c = candidateCount (rolesOf st) in
-    if-false (isnt (ltb k c)) 6 _ (not-So (isnt (ltb k c)) (λ x. isnt-iff (ltb k c) .0 x (ltb-iff k c .1 l))) ∙ if-false (has (st .standing) k) 7 0 h
-
 -- ---- every state that is reached is within the limits and covers each grant
 
 pub record Fit (st : State) : Type 0 where
@@ -147,11 +104,11 @@ restores-covered ρ R (suc n) S (Restores.one-more {S = T} k _ m lk a e) all = r
 accepted-fit : (st : State) (call : Call) → refusal st call ≡ 0 → Fit st → Fit (standingNow st (accepted st call .standing))
 unfolding accepted
 accepted-fit st (strike k) e f =
-    let a = strike-accepted st k e in
+    let a = strike-iff st k .0 e in
     fit-now st (st .standing ∖ single k) f (∖-lt (candidateCount (rolesOf st)) (st .standing) (single k) (f .limits .standing-below))
     (struck-covered (rolesOf st) (st .standing) k (a .0) (a .2) (f .covers-all))
 accepted-fit st (restore k) e f =
-    let a = restore-accepted st k e in
+    let a = restore-iff st k .0 e in
     fit-now st (st .standing ∪ single k) f
     (∪-lt (candidateCount (rolesOf st)) (st .standing) (single k) (f .limits .standing-below) (single-lt (candidateCount (rolesOf st)) k (a .0)))
     (restored-covered (rolesOf st) (st .standing) k (f .covers-all))
@@ -243,7 +200,8 @@ strikes-made st zero S Strikes.none = rw (now-same st) (made-none st strike)
 strikes-made st (suc n) S (Strikes.one-more {S = T} k _ m lk s e) =
     let mid = standingNow st T in
     let ok : refusal mid (strike k) ≡ 0 =
-    strike-accepts mid k (rw (roles-now st T) lk) (rw (standing-now st T) (strikable-stands (rolesOf st) T k s)) (rw (roles-now st T, standing-now st T) s) in
+    strike-iff mid k .1
+    (rw (roles-now st T) lk, rw (standing-now st T) (strikable-stands (rolesOf st) T k s), rw (roles-now st T, standing-now st T) s) in
     made-more st n k strike mid (standingNow st S) (strikes-made st n T m) ok
     (ap (λ (o : Outcome). o .state) (step-accepted mid (strike k) ok) ∙ now-now st T (mid .standing ∖ single k)
     ∙ ap (standingNow st) (ap (λ (x : ℕ). x ∖ single k) (standing-now st T) ∙ sym e))
@@ -253,7 +211,7 @@ unfolding accepted
 restores-made st zero S Restores.none = rw (now-same st) (made-none st restore)
 restores-made st (suc n) S (Restores.one-more {S = T} k _ m lk a e) =
     let mid = standingNow st T in
-    let ok : refusal mid (restore k) ≡ 0 = restore-accepts mid k (rw (roles-now st T) lk) (rw (standing-now st T) a) in
+    let ok : refusal mid (restore k) ≡ 0 = restore-iff mid k .1 (rw (roles-now st T) lk, rw (standing-now st T) a) in
     made-more st n k restore mid (standingNow st S) (restores-made st n T m) ok
     (ap (λ (o : Outcome). o .state) (step-accepted mid (restore k) ok) ∙ now-now st T (mid .standing ∪ single k)
     ∙ ap (standingNow st) (ap (λ (x : ℕ). x ∪ single k) (standing-now st T) ∙ sym e))

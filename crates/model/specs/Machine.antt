@@ -3,14 +3,15 @@
 use mathlib.Core.Bool.{Bool}
 use mathlib.Core.List.{List, [], _∷_}
 use Prim.Native.Nat.{ℕ, zero, suc, _*_, min}
-use lib.Dec.{eqb, leb, ltb}
+use lib.Dec.{eqb, ltb}
 use lib.Count.{ones}
 use Rattle.sets.specs.Truth.{_and_, _or_, isnt, if_then_else_, any, none}
 use Rattle.sets.specs.Sets.{has, _∩_, _∪_, _∖_, single, collect}
 use Rattle.model.specs.Hierarchy.{Roles, candidateCount}
 use Rattle.model.specs.Coverage.{grant, covers, strikable, strikables}
-use Rattle.model.specs.Quality.{Weights, weightsAllowed, quality}
+use Rattle.model.specs.Quality.{Weights, Tolerance, quality}
 use Rattle.model.specs.State.{State, rolesOf, standingNow}
+use Rattle.model.specs.Refusals.{_orElse_, roleRefusal, absentRefusal, standingRefusal, strikeRefusal, weightsRefusal, toleranceRefusal}
 
 -- ---- redundancy, and the order of a pass
 
@@ -48,15 +49,6 @@ unfoldable pub foremost : ℕ → (ℕ → ℕ) → ℕ → ℕ
 foremost c key s = first c (λ k. has s k and none c (λ j. has s j and before key j k))
 
 -- ---- eliminate
-
-pub record Tolerance : Type 0 where
-  pub numerator : ℕ
-  pub denominator : ℕ
-
--- "a tolerance a/b with b from 1 to 1,000 and a from b to 2b"
-unfoldable pub toleranceAllowed : Tolerance → Bool
-toleranceAllowed t =
-    leb 1 (t .denominator) and leb (t .denominator) 1000 and leb (t .denominator) (t .numerator) and leb (t .numerator) (2 * t .denominator)
 
 -- how far an elimination or a review has come
 pub record Run : Type 0 where
@@ -194,15 +186,10 @@ answer code changed examined = record { code = code; changed = changed; examined
 
 -- the first of 6, 7, 8 and 9 that applies, or 0
 unfoldable pub refusal : State → Call → ℕ
-refusal st (strike k) =
-    if isnt (ltb k (candidateCount (rolesOf st))) then 6
-    else if isnt (has (st .standing) k) then 7
-    else if isnt (strikable (rolesOf st) (st .standing) k) then 8
-    else 0
-refusal st (restore k) =
-    if isnt (ltb k (candidateCount (rolesOf st))) then 6 else if has (st .standing) k then 7 else 0
-refusal st (eliminate w t) = if isnt (weightsAllowed w and toleranceAllowed t) then 9 else 0
-refusal st (review w) = if isnt (weightsAllowed w) then 9 else 0
+refusal st (strike k) = roleRefusal (rolesOf st) k orElse absentRefusal (st .standing) k orElse strikeRefusal (rolesOf st) (st .standing) k
+refusal st (restore k) = roleRefusal (rolesOf st) k orElse standingRefusal (st .standing) k
+refusal st (eliminate w t) = weightsRefusal w orElse toleranceRefusal t
+refusal st (review w) = weightsRefusal w
 
 -- the standing set and the numbers that an accepted step leaves
 unfoldable pub accepted : State → Call → Run

@@ -14,8 +14,25 @@ pub record Weights : Type 0 where
   pub perLink : ℕ
 
 -- "weights w1..w4, each 0 to 1,000"
+abbrev pub mostWeight : ℕ
+mostWeight = 1000
+
 unfoldable pub weightsAllowed : Weights → Bool
-weightsAllowed w = leb (w .perRole) 1000 and leb (w .perMember) 1000 and leb (w .perPermission) 1000 and leb (w .perLink) 1000
+weightsAllowed w =
+    leb (w .perRole) mostWeight and leb (w .perMember) mostWeight and leb (w .perPermission) mostWeight and leb (w .perLink) mostWeight
+
+-- a/b, how much of the quality an elimination may lose with each strike
+pub record Tolerance : Type 0 where
+  pub numerator : ℕ
+  pub denominator : ℕ
+
+-- "a tolerance a/b with b from 1 to 1,000 and a from b to 2b"
+abbrev pub mostDenominator : ℕ
+mostDenominator = 1000
+
+unfoldable pub toleranceAllowed : Tolerance → Bool
+toleranceAllowed t =
+    leb 1 (t .denominator) and leb (t .denominator) mostDenominator and leb (t .denominator) (t .numerator) and leb (t .numerator) (2 * t .denominator)
 
 pub record Counts : Type 0 where
   pub roles : ℕ
