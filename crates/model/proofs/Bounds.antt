@@ -80,11 +80,10 @@ links-most : total 128 (λ k. k) ≡ 8128
 links-most = omega (arith, twice-below 128)
 
 module _ (ρ : Roles) (R : ℕ) (o : Ordered ρ R) (fewUsers : ρ .users ≤ 128) (fewPermissions : ρ .permissions ≤ 256) (fewRoles : candidateCount ρ ≤ 128) where
-  members-few : (k : ℕ) → ones (directMembers ρ R k) ≤ 128
-  members-few k = le-trans (ones-le (ρ .users) (directMembers ρ R k) (directMembers-lt ρ R k)) fewUsers
-
-  permissions-few : (k : ℕ) → ones (directPermissions ρ R k) ≤ 256
-  permissions-few k = le-trans (ones-le (ρ .permissions) (directPermissions ρ R k) (directPermissions-lt ρ R k)) fewPermissions
+  -- of sets of n items, one for each role, at most so many in all
+  in-all : (n most : ℕ) (f : ℕ → ℕ) → ((k : ℕ) → f k < 2 ^ n) → n ≤ most → total (candidateCount ρ) (λ k. ones (f k)) ≤ 128 * most
+  in-all n most f b l =
+      le-trans (total-bound (candidateCount ρ) most (λ k. ones (f k)) (λ k _. le-trans (ones-le n (f k) (b k)) l)) (mul-le-mul fewRoles (le-refl most))
 
   -- an immediate junior has a lower number
   juniors-few : (k : ℕ) → ones (immediateJuniors ρ R k) ≤ k
@@ -104,8 +103,8 @@ module _ (ρ : Roles) (R : ℕ) (o : Ordered ρ R) (fewUsers : ρ .users ≤ 128
       let c = candidateCount ρ in
       record {
         roles = le-trans (ones-le c R (o .below)) fewRoles;
-        members = le-trans (total-bound c 128 (λ k. ones (directMembers ρ R k)) (λ k l. members-few k)) (mul-le-mul fewRoles (le-refl 128));
-        permissions = le-trans (total-bound c 256 (λ k. ones (directPermissions ρ R k)) (λ k l. permissions-few k)) (mul-le-mul fewRoles (le-refl 256));
+        members = in-all (ρ .users) 128 (directMembers ρ R) (directMembers-lt ρ R) fewUsers;
+        permissions = in-all (ρ .permissions) 256 (directPermissions ρ R) (directPermissions-lt ρ R) fewPermissions;
         links = le-trans (total-≤ c (λ k. ones (immediateJuniors ρ R k)) (λ k. k) (λ k l. juniors-few k)) (le-trans (total-more c 128 (λ k. k) fewRoles) (le-of-eq links-most));
       }
 

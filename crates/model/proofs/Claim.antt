@@ -111,15 +111,12 @@ module _ (st : State) (f : Fit st) where
 -- ---- a strike and a restoration that are accepted
 
 pub strike-words : (st : State) (k : ℕ) → Fit st → refusal st (strike k) ≡ 0
-    → Altered (rolesOf st) (st .standing) k (built st) (built (step st (strike k) .state))
+    → Altered (rolesOf st) (st .standing) (single k) (built st) (built (step st (strike k) .state))
 unfolding accepted
-strike-words st k f e =
-    let s = step-accepted st (strike k) e in
-    let f' : Fit (standingNow st (st .standing ∖ single k)) = rw s at (step-fit st (strike k) f) in
-    rw s (strike-altered st k (limits-ordered st (f .limits)) (f .limits) (f' .limits))
+strike-words st k f e = rw (step-accepted st (strike k) e) (strike-altered st (single k) (f .limits))
 
 pub restore-words : (st : State) (k : ℕ) → Fit st → refusal st (restore k) ≡ 0
-    → Altered (rolesOf st) (step st (restore k) .state .standing) k (built st) (built (step st (restore k) .state))
+    → Altered (rolesOf st) (step st (restore k) .state .standing) (single k) (built st) (built (step st (restore k) .state))
 unfolding accepted
 restore-words st k f e =
     let s = step-accepted st (restore k) e in
@@ -129,8 +126,8 @@ restore-words st k f e =
     let back : standingNow full (full .standing ∖ single k) ≡ st =
     now-now st (st .standing ∪ single k) (full .standing ∖ single k)
     ∙ ap (standingNow st) (ap (λ (x : ℕ). x ∖ single k) (standing-now st (st .standing ∪ single k)) ∙ with-without (st .standing) k (a .1)) ∙ now-same st in
-    let r : Altered (rolesOf full) (full .standing) k (built (standingNow full (full .standing ∖ single k))) (built full) =
-    restore-altered full k (limits-ordered full (f' .limits)) (f' .limits) (rw back (f .limits)) in
+    let r : Altered (rolesOf full) (full .standing) (single k) (built (standingNow full (full .standing ∖ single k))) (built full) =
+    restore-altered full (single k) (f' .limits) in
     rw s (rw (roles-now st (st .standing ∪ single k), back) at r)
 
 -- ---- the claim
@@ -171,7 +168,7 @@ claim ws h calls =
         ∙ ap (λ (a : Answer). a .code) (sym (edit-given (wordsAfter ws before) (after-sound ws h before) call)) ∙ e)
 
     prefix-strike : (before : List Call) (k : ℕ) → edit (wordsAfter ws before) (strike k) .given .code ≡ 0
-        → Altered (rolesOf (stateAfter (stateOf ws) before)) (stateAfter (stateOf ws) before .standing) k
+        → Altered (rolesOf (stateAfter (stateOf ws) before)) (stateAfter (stateOf ws) before .standing) (single k)
         (wordsAfter ws before) (wordsAfter ws (before ++ (strike k ∷ [])))
     prefix-strike before k e =
         let st = stateAfter (stateOf ws) before in
@@ -179,7 +176,7 @@ claim ws h calls =
         (strike-words st k (after-fit (stateOf ws) before (sound-fit ws h)) (code-of before (strike k) e))
 
     prefix-restore : (before : List Call) (k : ℕ) → edit (wordsAfter ws before) (restore k) .given .code ≡ 0
-        → Altered (rolesOf (stateAfter (stateOf ws) before)) (stateAfter (stateOf ws) (before ++ (restore k ∷ [])) .standing) k
+        → Altered (rolesOf (stateAfter (stateOf ws) before)) (stateAfter (stateOf ws) (before ++ (restore k ∷ [])) .standing) (single k)
         (wordsAfter ws before) (wordsAfter ws (before ++ (restore k ∷ [])))
     prefix-restore before k e =
         let st = stateAfter (stateOf ws) before in

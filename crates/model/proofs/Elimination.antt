@@ -11,23 +11,20 @@ use borrow.Author.Tests.{ltb-false}
 use Rattle.sets.specs.Truth.{isnt, if_then_else_}
 use Rattle.sets.specs.Sets.{has, _∖_, single, subset}
 use Rattle.sets.proofs.Truth.{by-test, So-not, not-So, isnt-iff, ltb-iff, if-true, if-false}
-use Rattle.sets.proofs.Order.{∖-iff, ∖-lt, single-iff, subset-iff, subset-refl, subset-trans, collect-lt}
+use Rattle.sets.proofs.Order.{∖-iff, ∖-lt, single-iff, subset-refl, subset-trans, collect-lt}
 use Rattle.sets.proofs.Counts.{ones-without, ones-subset}
 use Rattle.model.specs.Hierarchy.{Roles, candidateCount}
 use Rattle.model.specs.Coverage.{strikable, strikables}
 use Rattle.model.specs.Quality.{Weights, quality, Tolerance}
 use Rattle.model.specs.Machine.{Run, dropped, struck, kept, takeUp, passes, begin, eliminated}
 use Rattle.model.proofs.Reading.{strikables-iff, strikable-stands}
-use Rattle.model.proofs.Changes.{strikable-more}
+use Rattle.model.proofs.Spared.{without-within, strikable-more}
 use Rattle.model.proofs.Passes.{triangle-mono, triangle-is, Rules, passes-end, passes-fuel, passes-examined}
 
 -- S comes from R by n strikes, each accepted
 pub data Strikes (ρ : Roles) (R : ℕ) : ℕ → ℕ → Type 0 where
   none : Strikes ρ R 0 R
   one-more : {n : ℕ} {S : ℕ} (k T : ℕ) → Strikes ρ R n S → k < candidateCount ρ → So (strikable ρ S k) → T ≡ S ∖ single k → Strikes ρ R (suc n) T
-
-without-subset : (s k : ℕ) → So (subset (s ∖ single k) s)
-without-subset s k = subset-iff (s ∖ single k) s .1 (λ i t. ∖-iff s (single k) i .0 t .0)
 
 module _ (ρ : Roles) (w : Weights) (t : Tolerance) where
   -- the quality after striking k
@@ -88,10 +85,10 @@ module _ (ρ : Roles) (w : Weights) (t : Tolerance) where
       (record {
         below = ∖-lt (candidateCount ρ) (r .standing) (single k) (g .below);
         listable = ∖-lt (candidateCount ρ) (r .worklist) (single k) (g .listable);
-        within = subset-trans (r .standing ∖ single k) (r .standing) R (without-subset (r .standing) k) (g .within);
+        within = subset-trans (r .standing ∖ single k) (r .standing) R (without-within (r .standing) (single k)) (g .within);
         listed = λ j lj h.
             ∖-iff (r .worklist) (single k) j .1 (
-              g .listed j lj (strikable-more ρ (r .standing ∖ single k) (r .standing) j lj (without-subset (r .standing) k) h),
+              g .listed j lj (strikable-more ρ (r .standing ∖ single k) (r .standing) j (without-within (r .standing) (single k)) h),
               ∖-iff (r .standing) (single k) j .0 (strikable-stands ρ (r .standing ∖ single k) j h) .1,
             );
         quality-now = refl;
@@ -123,7 +120,7 @@ module _ (ρ : Roles) (w : Weights) (t : Tolerance) where
       → takeUp ρ w t k r .changed + ones (takeUp ρ w t k r .worklist) ≤ r .changed + ones (r .worklist)
   unfolding dropped struck kept
   list-shrinks R k r lk g =
-      take-up k r (λ _ e. rw e (let o = ones-subset (r .worklist ∖ single k) (r .worklist) (without-subset (r .worklist) k) in omega arith))
+      take-up k r (λ _ e. rw e (let o = ones-subset (r .worklist ∖ single k) (r .worklist) (without-within (r .worklist) (single k)) in omega arith))
       (λ s _ e. rw e (let o = ones-without (r .worklist) k (g .listed k lk s) in omega arith)) (λ _ _ e. rw e (le-refl (r .changed + ones (r .worklist))))
 
   -- ---- passes

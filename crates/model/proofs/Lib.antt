@@ -3,9 +3,11 @@ pub mod Cases
 pub mod Guards
 pub mod Growing
 pub mod Candidates
+pub mod Direct
 pub mod Reading
 pub mod Chains
 pub mod Building
+pub mod Spared
 pub mod Changes
 pub mod Restoring
 pub mod Lists

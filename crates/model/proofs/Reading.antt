@@ -1,7 +1,7 @@
 -- Each definition of the building and of coverage, as the statement that it computes.
 -- Assumes nothing.
 use mathlib.Core.Path.{_≡_, refl, sym}
-use mathlib.Core.Bool.{Bool, So}
+use mathlib.Core.Bool.{So}
 use mathlib.Core.Logic.{_↔_, _≢_}
 use Prim.Native.Nat.{ℕ, _<_, _^_}
 use lib.ListN.{getD}
@@ -10,6 +10,7 @@ use Rattle.sets.specs.Sets.{has, _∖_, single, subset, properSubset}
 use Rattle.sets.proofs.Truth.{and-iff, implies-iff, any-iff, all-iff, none-of, none-is}
 use Rattle.sets.proofs.Order.{collect-iff, single-iff, ∖-iff}
 use Rattle.model.specs.Hierarchy.{Roles, candidateCount, permissionSet, authorisedUsers, senior, immediatelySenior, immediateJuniors, directPermissions, directMembers}
+use Rattle.model.proofs.Direct.{direct-iff}
 use Rattle.model.specs.Coverage.{grant, covers, covered, allCovered, spared, strikable, strikables}
 
 -- what the theory of the hierarchy rests on: a proper subset has a lower number, and the standing roles are candidates
@@ -145,28 +146,7 @@ module _ (ρ : Roles) where
         ↔ ((p < ρ .permissions) × So (has R k) × So (has (permissionSet ρ k) p)
         × ((j : ℕ) → j < candidateCount ρ → So (senior ρ R k j) → So (has (permissionSet ρ j) p) → ⊥))
     unfolding directPermissions
-    permission-iff k p =
-        let test : ℕ → Bool = λ p. has R k and has (permissionSet ρ k) p and none (candidateCount ρ) (λ j. senior ρ R k j and has (permissionSet ρ j) p) in (
-          λ h.
-              let a = collect-iff (ρ .permissions) test p .0 h in
-              let b = and-iff (has R k and has (permissionSet ρ k) p) (none (candidateCount ρ) (λ j. senior ρ R k j and has (permissionSet ρ j) p)) .0 (a .1) in
-              let d = and-iff (has R k) (has (permissionSet ρ k) p) .0 (b .0) in (
-                a .0,
-                d .0,
-                d .1,
-                λ j l s t.
-                    none-is (candidateCount ρ) (λ j. senior ρ R k j and has (permissionSet ρ j) p) (b .1) j l (and-iff (senior ρ R k j) (has (permissionSet ρ j) p) .1 (s, t)),
-              ),
-          λ f.
-              collect-iff (ρ .permissions) test p .1 (
-                f .0,
-                and-iff (has R k and has (permissionSet ρ k) p) (none (candidateCount ρ) (λ j. senior ρ R k j and has (permissionSet ρ j) p)) .1 (
-                  and-iff (has R k) (has (permissionSet ρ k) p) .1 (f .1, f .2),
-                  none-of (candidateCount ρ) (λ j. senior ρ R k j and has (permissionSet ρ j) p)
-                      (λ j l b. let d = and-iff (senior ρ R k j) (has (permissionSet ρ j) p) .0 b in f .3 j l (d .0) (d .1)),
-                ),
-              ),
-        )
+    permission-iff k p = direct-iff (ρ .permissions) (candidateCount ρ) R (λ j k. senior ρ R k j) (permissionSet ρ) k p
 
     -- "A(k) less A of all its seniors"
     pub member-iff : (k u : ℕ)
@@ -174,25 +154,4 @@ module _ (ρ : Roles) where
         ↔ ((u < ρ .users) × So (has R k) × So (has (authorisedUsers ρ k) u)
         × ((i : ℕ) → i < candidateCount ρ → So (senior ρ R i k) → So (has (authorisedUsers ρ i) u) → ⊥))
     unfolding directMembers
-    member-iff k u =
-        let test : ℕ → Bool = λ u. has R k and has (authorisedUsers ρ k) u and none (candidateCount ρ) (λ i. senior ρ R i k and has (authorisedUsers ρ i) u) in (
-          λ h.
-              let a = collect-iff (ρ .users) test u .0 h in
-              let b = and-iff (has R k and has (authorisedUsers ρ k) u) (none (candidateCount ρ) (λ i. senior ρ R i k and has (authorisedUsers ρ i) u)) .0 (a .1) in
-              let d = and-iff (has R k) (has (authorisedUsers ρ k) u) .0 (b .0) in (
-                a .0,
-                d .0,
-                d .1,
-                λ i l s t.
-                    none-is (candidateCount ρ) (λ i. senior ρ R i k and has (authorisedUsers ρ i) u) (b .1) i l (and-iff (senior ρ R i k) (has (authorisedUsers ρ i) u) .1 (s, t)),
-              ),
-          λ f.
-              collect-iff (ρ .users) test u .1 (
-                f .0,
-                and-iff (has R k and has (authorisedUsers ρ k) u) (none (candidateCount ρ) (λ i. senior ρ R i k and has (authorisedUsers ρ i) u)) .1 (
-                  and-iff (has R k) (has (authorisedUsers ρ k) u) .1 (f .1, f .2),
-                  none-of (candidateCount ρ) (λ i. senior ρ R i k and has (authorisedUsers ρ i) u)
-                      (λ i l b. let d = and-iff (senior ρ R i k) (has (authorisedUsers ρ i) u) .0 b in f .3 i l (d .0) (d .1)),
-                ),
-              ),
-        )
+    member-iff k u = direct-iff (ρ .users) (candidateCount ρ) R (senior ρ R) (authorisedUsers ρ) k u

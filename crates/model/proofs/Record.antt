@@ -21,10 +21,11 @@ use Rattle.sets.proofs.Order.{collect-lt}
 use Rattle.sets.proofs.Words.{word-lt}
 use Rattle.sets.proofs.Truth.{So-not, and-iff, eqb-iff, ltb-iff, leb-iff, all-iff, if-true, if-false, either}
 use Rattle.model.specs.Lists.{setAt, rowsAt}
-use Rattle.model.specs.Hierarchy.{Roles, candidateCount, immediatelySenior, permissionSet, immediateJuniors, directPermissions, directMembers, building}
+use Rattle.model.specs.Hierarchy.{Roles, candidateCount, permissionSet, authorisedUsers, senior, immediatelySenior, immediateJuniors, directPermissions, directMembers, building}
 use Rattle.model.specs.Coverage.{allCovered}
 use Rattle.model.specs.State.{State, rolesOf, withinLimits, rowsWithin}
 use Rattle.model.specs.Record.{recordLength, crewStart, setsStart, permissionsStart, membersStart, juniorsStart, headerWord, regionWord, wordAt, built, stateOf, rowsOf, stateSound, sound, Limits}
+use Rattle.model.proofs.Direct.{direct-lt}
 use Rattle.model.proofs.Building.{absent-juniors, absent-permissions, absent-members}
 use Rattle.model.proofs.Lists.{length-tabulate, getD-tabulate, tabulate-is, setAt-words, length-rowsAt, getD-rowsAt}
 
@@ -237,11 +238,11 @@ immediateJuniors-lt ρ R k = collect-lt (candidateCount ρ) (λ j. immediatelySe
 
 pub directPermissions-lt : (ρ : Roles) (R k : ℕ) → directPermissions ρ R k < 2 ^ ρ .permissions
 unfolding directPermissions
-directPermissions-lt ρ R k = collect-lt (ρ .permissions) _
+directPermissions-lt ρ R = direct-lt (ρ .permissions) (candidateCount ρ) R (λ j k. senior ρ R k j) (permissionSet ρ)
 
 pub directMembers-lt : (ρ : Roles) (R k : ℕ) → directMembers ρ R k < 2 ^ ρ .users
 unfolding directMembers
-directMembers-lt ρ R k = collect-lt (ρ .users) _
+directMembers-lt ρ R = direct-lt (ρ .users) (candidateCount ρ) R (senior ρ R) (authorisedUsers ρ)
 
 -- ---- a record reads back as the state that it was built from
 

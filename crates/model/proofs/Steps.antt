@@ -22,7 +22,7 @@ use Rattle.model.specs.Machine.{Call, Outcome, answer, refusal, accepted
 use Rattle.model.specs.Machine.Call.{strike, restore, eliminate, review}
 use Rattle.model.proofs.Candidates.{proper-lower, row-candidate}
 use Rattle.model.proofs.Reading.{Ordered, user-iff, covers-iff, covered-iff, allCovered-iff, strikable-stands}
-use Rattle.model.proofs.Changes.{struck-covered, restored-covered}
+use Rattle.model.proofs.Spared.{struck-covered, restored-covered}
 use Rattle.model.specs.Record.{Limits}
 use Rattle.model.proofs.Refusals.{strike-iff, restore-iff}
 use Rattle.model.proofs.Elimination.{Strikes, eliminated-going}
@@ -95,23 +95,23 @@ fit-now st R f b all = record { limits = limits-now st R (f .limits) b; covers-a
 pub strikes-covered : (ρ : Roles) (R n S : ℕ) → Strikes ρ R n S → So (allCovered ρ R) → So (allCovered ρ S)
 strikes-covered ρ R zero S Strikes.none all = all
 strikes-covered ρ R (suc n) S (Strikes.one-more {S = T} k _ m lk s e) all =
-    rw e (struck-covered ρ T k lk s (strikes-covered ρ R n T m all))
+    rw e (struck-covered ρ T k s (strikes-covered ρ R n T m all))
 
 pub restores-covered : (ρ : Roles) (R n S : ℕ) → Restores ρ R n S → So (allCovered ρ R) → So (allCovered ρ S)
 restores-covered ρ R zero S Restores.none all = all
-restores-covered ρ R (suc n) S (Restores.one-more {S = T} k _ m lk a e) all = rw e (restored-covered ρ T k (restores-covered ρ R n T m all))
+restores-covered ρ R (suc n) S (Restores.one-more {S = T} k _ m lk a e) all = rw e (restored-covered ρ T (single k) (restores-covered ρ R n T m all))
 
 accepted-fit : (st : State) (call : Call) → refusal st call ≡ 0 → Fit st → Fit (standingNow st (accepted st call .standing))
 unfolding accepted
 accepted-fit st (strike k) e f =
     let a = strike-iff st k .0 e in
     fit-now st (st .standing ∖ single k) f (∖-lt (candidateCount (rolesOf st)) (st .standing) (single k) (f .limits .standing-below))
-    (struck-covered (rolesOf st) (st .standing) k (a .0) (a .2) (f .covers-all))
+    (struck-covered (rolesOf st) (st .standing) k (a .2) (f .covers-all))
 accepted-fit st (restore k) e f =
     let a = restore-iff st k .0 e in
     fit-now st (st .standing ∪ single k) f
     (∪-lt (candidateCount (rolesOf st)) (st .standing) (single k) (f .limits .standing-below) (single-lt (candidateCount (rolesOf st)) k (a .0)))
-    (restored-covered (rolesOf st) (st .standing) k (f .covers-all))
+    (restored-covered (rolesOf st) (st .standing) (single k) (f .covers-all))
 accepted-fit st (eliminate w t) e f =
     let g = eliminated-going (rolesOf st) w t (st .standing) (f .limits .standing-below) in
     fit-now st (eliminated (rolesOf st) w t (st .standing) .standing) f (g .below)

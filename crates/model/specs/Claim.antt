@@ -6,7 +6,7 @@ use mathlib.Core.Logic.{_↔_}
 use mathlib.Core.List.{List, [], _∷_, _++_}
 use Prim.Native.Nat.{ℕ, _<_}
 use lib.ListN.{getD}
-use Rattle.sets.specs.Sets.{has}
+use Rattle.sets.specs.Sets.{has, single}
 use Rattle.model.specs.Chains.{link, Chain, other, Authorised}
 use Rattle.model.specs.State.{rolesOf}
 use Rattle.model.specs.Record.{built, stateOf, rowsOf}
@@ -40,8 +40,8 @@ pub record Kept (ws : List ℕ) (calls : List Call) : Type 0 where
   pub no-replacement : (x y : ℕ) → So (link (rowsOf (wordsAfter ws calls)) x y) → Chain (other (link (rowsOf (wordsAfter ws calls))) x y) x y → ⊥
   -- "each strike or restoration altered only the marks and rows that 01 allows": for every prefix that ends in an accepted one
   pub strikes-altered : (before rest : List Call) (k : ℕ) → calls ≡ before ++ (strike k ∷ rest) → edit (wordsAfter ws before) (strike k) .given .code ≡ 0
-      → Altered (rolesOf (stateAfter (stateOf ws) before)) (stateAfter (stateOf ws) before .standing) k
+      → Altered (rolesOf (stateAfter (stateOf ws) before)) (stateAfter (stateOf ws) before .standing) (single k)
       (wordsAfter ws before) (wordsAfter ws (before ++ (strike k ∷ [])))
   pub restorations-altered : (before rest : List Call) (k : ℕ) → calls ≡ before ++ (restore k ∷ rest) → edit (wordsAfter ws before) (restore k) .given .code ≡ 0
-      → Altered (rolesOf (stateAfter (stateOf ws) before)) (stateAfter (stateOf ws) (before ++ (restore k ∷ [])) .standing) k
+      → Altered (rolesOf (stateAfter (stateOf ws) before)) (stateAfter (stateOf ws) (before ++ (restore k ∷ [])) .standing) (single k)
       (wordsAfter ws before) (wordsAfter ws (before ++ (restore k ∷ [])))

@@ -44,17 +44,18 @@ immediatelySenior ρ R k j = senior ρ R k j and none (candidateCount ρ) (λ i.
 unfoldable pub immediateJuniors : Roles → ℕ → ℕ → ℕ
 immediateJuniors ρ R k = collect (candidateCount ρ) (λ j. immediatelySenior ρ R k j)
 
--- "S(k) less the sets of all its juniors"
-unfoldable pub directPermissions : Roles → ℕ → ℕ → ℕ
-directPermissions ρ R k =
-    collect (ρ .permissions)
-    (λ p. has R k and has (permissionSet ρ k) p and none (candidateCount ρ) (λ j. senior ρ R k j and has (permissionSet ρ j) p))
+-- of n items, those that a role k of R has itself: what its own set holds less the sets of all that take away from it. There are c roles, and
+-- `takes j k` says that j takes away from k
+unfoldable pub directOf : ℕ → ℕ → ℕ → (ℕ → ℕ → Bool) → (ℕ → ℕ) → ℕ → ℕ
+directOf n c R takes own k = collect n (λ i. has R k and has (own k) i and none c (λ j. takes j k and has (own j) i))
 
--- "A(k) less A of all its seniors"
+-- direct permissions: "S(k) less the sets of all its juniors"
+unfoldable pub directPermissions : Roles → ℕ → ℕ → ℕ
+directPermissions ρ R k = directOf (ρ .permissions) (candidateCount ρ) R (λ j k. senior ρ R k j) (permissionSet ρ) k
+
+-- direct members: "A(k) less A of all its seniors"
 unfoldable pub directMembers : Roles → ℕ → ℕ → ℕ
-directMembers ρ R k =
-    collect (ρ .users)
-    (λ u. has R k and has (authorisedUsers ρ k) u and none (candidateCount ρ) (λ i. senior ρ R i k and has (authorisedUsers ρ i) u))
+directMembers ρ R k = directOf (ρ .users) (candidateCount ρ) R (senior ρ R) (authorisedUsers ρ) k
 
 -- the rows of all roles, whoever made them: the building of R, or what a record's words hold
 pub record Rows : Type 0 where
