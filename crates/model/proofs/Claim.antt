@@ -12,7 +12,7 @@ use Rattle.sets.specs.Sets.{has, _∪_, _∖_, single}
 use Rattle.sets.proofs.Truth.{by-test, So-not, not-So, isnt-iff, eqb-iff, if-true, if-false}
 use Rattle.sets.proofs.Order.{with-without}
 use Rattle.model.specs.Hierarchy.{candidateCount, building}
-use Rattle.model.specs.Chains.{link, Chain, other, Authorised}
+use Rattle.model.specs.Chains.{link, Chain, other, may, Authorised}
 use Rattle.model.specs.Coverage.{grant}
 use Rattle.model.specs.State.{State, rolesOf, standingNow}
 use Rattle.model.specs.Record.{built, stateOf, rowsOf, sound}
@@ -22,6 +22,7 @@ use Rattle.model.specs.Machine.Call.{strike, restore}
 use Rattle.model.specs.Calls.{unfit, Edited, edit}
 use Rattle.model.specs.Claim.{wordsAfter, answersGiven, Kept}
 use Rattle.model.proofs.Chains.{may-iff}
+use Rattle.model.proofs.Reading.{Ordered}
 use Rattle.model.proofs.Building.{building-below, granted-may, may-possible, no-return, no-replacement}
 use Rattle.model.proofs.Record.{sound-iff, sound-built, state-back, rows-back, built-sound}
 use Rattle.model.proofs.Refusals.{unfit-iff, restore-iff}
@@ -94,19 +95,31 @@ module _ (st : State) (f : Fit st) where
   rows-are : rowsOf (built st) ≡ building (rolesOf st) (st .standing)
   rows-are = rows-back st (f .limits)
 
+  o : Ordered (rolesOf st) (st .standing)
+  o = limits-ordered st (f .limits)
+
+  same : (u p : ℕ) → So (may (candidateCount (rolesOf st)) (building (rolesOf st) (st .standing)) u p) ↔ Authorised (building (rolesOf st) (st .standing)) u p
+  same = may-iff (candidateCount (rolesOf st)) (building (rolesOf st) (st .standing)) (building-below (rolesOf st) (st .standing) o)
+
+  -- whoever is granted a permission is authorised for it, and whoever is authorised has it in the possible row
+  pub words-granted : (u p : ℕ) → u < st .users → p < st .permissions → So (grant (rolesOf st) u p) → Authorised (rowsOf (built st)) u p
+  unfolding rolesOf
+  words-granted u p lu lp g = rw rows-are (same u p .0 (granted-may (rolesOf st) (st .standing) o (f .covers-all) u p lu lp g))
+
+  pub words-possible : (u p : ℕ) → p < st .permissions → Authorised (rowsOf (built st)) u p → So (has (getD (rolesOf st .possible) u 0) p)
+  unfolding rolesOf
+  words-possible u p lp a = may-possible (rolesOf st) (st .standing) o u p lp (same u p .1 (rw rows-are at a))
+
+  -- both rows are the crew row
   pub words-authorised : (u p : ℕ) → u < st .users → p < st .permissions → Authorised (rowsOf (built st)) u p ↔ So (has (getD (st .rows) u 0) p)
   unfolding rolesOf grant
-  words-authorised u p lu lp =
-      let ρ = rolesOf st in
-      let o = limits-ordered st (f .limits) in
-      let same = may-iff (candidateCount ρ) (building ρ (st .standing)) (building-below ρ (st .standing) o) u p in
-      rw rows-are (λ a. may-possible ρ (st .standing) o u p lp (same .1 a), λ g. same .0 (granted-may ρ (st .standing) o (f .covers-all) u p lu lp g))
+  words-authorised u p lu lp = (words-possible u p lp, words-granted u p lu lp)
 
   pub words-no-return : (k : ℕ) → Chain (link (rowsOf (built st))) k k → ⊥
-  words-no-return k = rw rows-are (no-return (rolesOf st) (st .standing) (limits-ordered st (f .limits)) k)
+  words-no-return k = rw rows-are (no-return (rolesOf st) (st .standing) o k)
 
   pub words-no-replacement : (x y : ℕ) → So (link (rowsOf (built st)) x y) → Chain (other (link (rowsOf (built st))) x y) x y → ⊥
-  words-no-replacement x y = rw rows-are (no-replacement (rolesOf st) (st .standing) (limits-ordered st (f .limits)) x y)
+  words-no-replacement x y = rw rows-are (no-replacement (rolesOf st) (st .standing) o x y)
 
 -- ---- a strike and a restoration that are accepted
 
