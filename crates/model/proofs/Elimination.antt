@@ -16,7 +16,7 @@ use Rattle.sets.proofs.Counts.{ones-without, ones-subset}
 use Rattle.model.specs.Hierarchy.{Roles, candidateCount}
 use Rattle.model.specs.Coverage.{strikable, strikables}
 use Rattle.model.specs.Quality.{Weights, quality, Tolerance}
-use Rattle.model.specs.Machine.{Run, dropped, struck, kept, takeUp, passes, begin, eliminated}
+use Rattle.model.specs.Machine.{Run, afterDrop, afterStrike, afterStay, takeUp, passes, begin, eliminated}
 use Rattle.model.proofs.Reading.{strikables-iff, strikable-stands}
 use Rattle.model.proofs.Spared.{without-within, strikable-more}
 use Rattle.model.proofs.Passes.{triangle-mono, triangle-is, Rules, passes-end, passes-fuel, passes-examined}
@@ -34,10 +34,10 @@ module _ (ρ : Roles) (w : Weights) (t : Tolerance) where
   -- ---- one role taken up: three cases
 
   pub take-up {ℓ} : {C : Type ℓ} (k : ℕ) (r : Run)
-      → (strikable ρ (r .standing) k ≡ false → takeUp ρ w t k r ≡ dropped k r → C)
+      → (strikable ρ (r .standing) k ≡ false → takeUp ρ w t k r ≡ afterDrop k r → C)
       → (So (strikable ρ (r .standing) k) → t .denominator * after (r .standing) k < t .numerator * r .reference
-      → takeUp ρ w t k r ≡ struck k (after (r .standing) k) r → C)
-      → (So (strikable ρ (r .standing) k) → t .numerator * r .reference ≤ t .denominator * after (r .standing) k → takeUp ρ w t k r ≡ kept r → C)
+      → takeUp ρ w t k r ≡ afterStrike k (after (r .standing) k) r → C)
+      → (So (strikable ρ (r .standing) k) → t .numerator * r .reference ≤ t .denominator * after (r .standing) k → takeUp ρ w t k r ≡ afterStay r → C)
       → C
   unfolding takeUp
   take-up k r drops strikes stays =
@@ -45,13 +45,13 @@ module _ (ρ : Roles) (w : Weights) (t : Tolerance) where
       let q' = after (r .standing) k in
       let x = t .denominator * q' in
       let y = t .numerator * r .reference in
-      let rest = if ltb x y then struck k q' r else kept r in
+      let rest = if ltb x y then afterStrike k q' r else afterStay r in
       by-test s
       (λ e.
-      let skip = if-false (isnt s) (dropped k r) rest (not-So (isnt s) (λ h. isnt-iff s .0 h e)) in
-      by-test (ltb x y) (λ b. strikes e (ltb-iff x y .0 b) (skip ∙ if-true (ltb x y) (struck k q' r) (kept r) b))
-      (λ b. stays e (ltb-false x y b) (skip ∙ if-false (ltb x y) (struck k q' r) (kept r) b)))
-      (λ e. drops e (if-true (isnt s) (dropped k r) rest (isnt-iff s .1 (So-not e))))
+      let skip = if-false (isnt s) (afterDrop k r) rest (not-So (isnt s) (λ h. isnt-iff s .0 h e)) in
+      by-test (ltb x y) (λ b. strikes e (ltb-iff x y .0 b) (skip ∙ if-true (ltb x y) (afterStrike k q' r) (afterStay r) b))
+      (λ b. stays e (ltb-false x y b) (skip ∙ if-false (ltb x y) (afterStrike k q' r) (afterStay r) b)))
+      (λ e. drops e (if-true (isnt s) (afterDrop k r) rest (isnt-iff s .1 (So-not e))))
 
   -- ---- what holds all along, from the standing set R on
 
@@ -66,7 +66,7 @@ module _ (ρ : Roles) (w : Weights) (t : Tolerance) where
     pub strikes : Strikes ρ R (r .changed) (r .standing)
 
   pub going-on : (R k : ℕ) (r : Run) → k < candidateCount ρ → Going R r → Going R (takeUp ρ w t k r)
-  unfolding dropped struck kept
+  unfolding afterDrop afterStrike afterStay
   going-on R k r lk g =
       take-up k r
       (λ s e.
@@ -109,16 +109,16 @@ module _ (ρ : Roles) (w : Weights) (t : Tolerance) where
 
   -- one role more is taken up; what is struck leaves the worklist
   pub examined-one : (k : ℕ) (r : Run) → takeUp ρ w t k r .examined ≡ suc (r .examined)
-  unfolding dropped struck kept
+  unfolding afterDrop afterStrike afterStay
   examined-one k r = take-up k r (λ _ e. rw e refl) (λ _ _ e. rw e refl) (λ _ _ e. rw e refl)
 
   pub never-fewer : (k : ℕ) (r : Run) → r .changed ≤ takeUp ρ w t k r .changed
-  unfolding dropped struck kept
+  unfolding afterDrop afterStrike afterStay
   never-fewer k r = take-up k r (λ _ e. rw e (le-refl (r .changed))) (λ _ _ e. rw e (omega arith)) (λ _ _ e. rw e (le-refl (r .changed)))
 
   pub list-shrinks : (R k : ℕ) (r : Run) → k < candidateCount ρ → Going R r
       → takeUp ρ w t k r .changed + ones (takeUp ρ w t k r .worklist) ≤ r .changed + ones (r .worklist)
-  unfolding dropped struck kept
+  unfolding afterDrop afterStrike afterStay
   list-shrinks R k r lk g =
       take-up k r (λ _ e. rw e (let o = ones-subset (r .worklist ∖ single k) (r .worklist) (without-within (r .worklist) (single k)) in omega arith))
       (λ s _ e. rw e (let o = ones-without (r .worklist) k (g .listed k lk s) in omega arith)) (λ _ _ e. rw e (le-refl (r .changed + ones (r .worklist))))
@@ -131,7 +131,7 @@ module _ (ρ : Roles) (w : Weights) (t : Tolerance) where
 
   leaves : (k : ℕ) (r : Run) → takeUp ρ w t k r .changed ≡ r .changed
       → (takeUp ρ w t k r .standing ≡ r .standing) × (takeUp ρ w t k r .reference ≡ r .reference) × NotWorth k (r .standing) (r .reference)
-  unfolding dropped struck kept
+  unfolding afterDrop afterStrike afterStay
   leaves k r same =
       take-up k r (λ s e. rw e (refl, refl, λ h. absurd (So-not s h)))
       (λ _ _ e. let x : suc (r .changed) ≡ r .changed = rw e at same in let z : ⊥ = omega arith in absurd z) (λ _ l e. rw e (refl, refl, λ _. l))

@@ -24,7 +24,7 @@ use Rattle.model.specs.Lists.{setAt, rowsAt}
 use Rattle.model.specs.Hierarchy.{Roles, candidateCount, permissionSet, authorisedUsers, senior, immediatelySenior, immediateJuniors, directPermissions, directMembers, building}
 use Rattle.model.specs.Coverage.{allCovered}
 use Rattle.model.specs.State.{State, rolesOf, withinLimits, rowsWithin}
-use Rattle.model.specs.Record.{recordLength, crewStart, setsStart, permissionsStart, membersStart, juniorsStart, headerWord, regionWord, wordAt, built, stateOf, rowsOf, stateSound, sound, Limits}
+use Rattle.model.specs.Record.{recordLength, crewStart, setsStart, permissionsStart, membersStart, juniorsStart, headerWord, regionWord, wordAt, built, stateOf, roleRowsOf, stateSound, sound, Limits}
 use Rattle.model.proofs.Direct.{direct-lt}
 use Rattle.model.proofs.Building.{absent-juniors, absent-permissions, absent-members}
 use Rattle.model.proofs.Lists.{length-tabulate, getD-tabulate, tabulate-is, setAt-words, length-rowsAt, getD-rowsAt}
@@ -311,8 +311,8 @@ module _ (st : State) (lim : Limits st) where
       λ i. record { users = read-users i; permissions = read-permissions i; rows = rows-back i; standing = read-standing i }
 
   -- and its rows as the building
-  pub rows-back : rowsOf (built st) ≡ building (rolesOf st) (st .standing)
-  unfolding rowsOf building
+  pub rows-back : roleRowsOf (built st) ≡ building (rolesOf st) (st .standing)
+  unfolding roleRowsOf building
   rows-back =
       let ρ = rolesOf st in
       let R = st .standing in

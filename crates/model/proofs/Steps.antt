@@ -18,7 +18,7 @@ use Rattle.model.specs.Hierarchy.{Roles, candidateCount, permissionSet}
 use Rattle.model.specs.Coverage.{grant, allCovered}
 use Rattle.model.specs.Quality.{Weights, Tolerance}
 use Rattle.model.specs.State.{State, rolesOf, standingNow, fresh}
-use Rattle.model.specs.Machine.{Call, Outcome, answer, refusal, accepted, step, stateAfter, eliminated, reviewed}
+use Rattle.model.specs.Machine.{Call, Outcome, reply, refusal, accepted, step, stateAfter, eliminated, reviewed}
 use Rattle.model.specs.Machine.Call.{strike, restore, eliminate, review}
 use Rattle.model.proofs.Candidates.{proper-lower, row-candidate}
 use Rattle.model.proofs.Reading.{Ordered, user-iff, covers-iff, covered-iff, allCovered-iff, strikable-stands}
@@ -67,17 +67,17 @@ now-same st = refl
 -- ---- a step is refused, or accepted
 
 pub step-accepted : (st : State) (call : Call) → refusal st call ≡ 0
-    → step st call ≡ record { given = answer 0 (accepted st call .changed) (accepted st call .examined); state = standingNow st (accepted st call .standing) }
+    → step st call ≡ record { replied = reply 0 (accepted st call .changed) (accepted st call .examined); state = standingNow st (accepted st call .standing) }
 unfolding step
 step-accepted st call e = if-true (eqb (refusal st call) 0) _ _ (eqb-iff (refusal st call) 0 .1 e)
 
-pub step-refused : (st : State) (call : Call) → refusal st call ≢ 0 → step st call ≡ record { given = answer (refusal st call) 0 0; state = st }
+pub step-refused : (st : State) (call : Call) → refusal st call ≢ 0 → step st call ≡ record { replied = reply (refusal st call) 0 0; state = st }
 unfolding step
 step-refused st call d = if-false (eqb (refusal st call) 0) _ _ (not-So (eqb (refusal st call) 0) (λ h. d (eqb-iff (refusal st call) 0 .0 h)))
 
 -- which way a step goes is told by its answer
-pub step-code : (st : State) (call : Call) → step st call .given .code ≡ refusal st call
-unfolding answer
+pub step-code : (st : State) (call : Call) → step st call .replied .code ≡ refusal st call
+unfolding reply
 step-code st call =
     by-test (eqb (refusal st call) 0)
     (λ h. let e = eqb-iff (refusal st call) 0 .0 h in rw (step-accepted st call e) (sym e))
@@ -218,8 +218,8 @@ restores-made st (suc n) S (Restores.one-more {S = T} k _ m lk a e) =
 
 -- "an elimination is a list of accepted single strikes", as many as its answer says, with the same state at its end
 pub elimination-made : (st : State) (w : Weights) (t : Tolerance) → Limits st → refusal st (eliminate w t) ≡ 0
-    → Made st (step st (eliminate w t) .given .changed) strike (step st (eliminate w t) .state)
-unfolding accepted answer
+    → Made st (step st (eliminate w t) .replied .changed) strike (step st (eliminate w t) .state)
+unfolding accepted reply
 elimination-made st w t lim e =
     rw (step-accepted st (eliminate w t) e)
     (strikes-made st (eliminated (rolesOf st) w t (st .standing) .changed) (eliminated (rolesOf st) w t (st .standing) .standing)
@@ -227,8 +227,8 @@ elimination-made st w t lim e =
 
 -- "a review a list of accepted single restorations"
 pub review-made : (st : State) (w : Weights) → Limits st → refusal st (review w) ≡ 0
-    → Made st (step st (review w) .given .changed) restore (step st (review w) .state)
-unfolding accepted answer
+    → Made st (step st (review w) .replied .changed) restore (step st (review w) .state)
+unfolding accepted reply
 review-made st w lim e =
     rw (step-accepted st (review w) e)
     (restores-made st (reviewed (rolesOf st) w (st .standing) .changed) (reviewed (rolesOf st) w (st .standing) .standing)
@@ -253,7 +253,7 @@ fresh-covered n m rows e =
           (user-iff ρ (r .place) u .1 (lu, rw (r .there) (subset-refl (getD rows u 0))), rw (r .there) g),
     ))
 
--- within the limits, with all candidates standing, each grant is covered: by the role that is the person's own row
+-- within the limits, with all candidates standing, each grant is covered: by the role that is the user's own row
 pub fresh-fit : (n m : ℕ) (rows : List ℕ) → 1 ≤ n → n ≤ 128 → 1 ≤ m → m ≤ 256 → length rows ≡ n
     → ((u : ℕ) → u < n → getD rows u 0 < 2 ^ m) → length (candidates rows) ≤ 128 → Fit (fresh n m rows)
 unfolding fresh rolesOf candidateCount

@@ -53,7 +53,7 @@ foremost c key s = first c (λ k. has s k and none c (λ j. has s j and before k
 -- how far an elimination or a review has come
 pub record Run : Type 0 where
   pub standing : ℕ
-  -- the worklist of an elimination
+  -- "the worklist" of an elimination
   pub worklist : ℕ
   -- q, the quality that the next trial is compared with
   pub reference : ℕ
@@ -61,9 +61,9 @@ pub record Run : Type 0 where
   pub changed : ℕ
   pub examined : ℕ
 
--- taken up and off the worklist; struck besides, which leaves the quality q; and taken up only
-unfoldable pub dropped : ℕ → Run → Run
-dropped k r =
+-- the run after role k was taken up and left the worklist; after it was struck besides, which leaves the quality q; and after it stays
+unfoldable pub afterDrop : ℕ → Run → Run
+afterDrop k r =
     record {
       standing = r .standing;
       worklist = r .worklist ∖ single k;
@@ -72,8 +72,8 @@ dropped k r =
       examined = suc (r .examined);
     }
 
-unfoldable pub struck : ℕ → ℕ → Run → Run
-struck k q r =
+unfoldable pub afterStrike : ℕ → ℕ → Run → Run
+afterStrike k q r =
     record {
       standing = r .standing ∖ single k;
       worklist = r .worklist ∖ single k;
@@ -82,8 +82,8 @@ struck k q r =
       examined = suc (r .examined);
     }
 
-unfoldable pub kept : Run → Run
-kept r =
+unfoldable pub afterStay : Run → Run
+afterStay r =
     record {
       standing = r .standing;
       worklist = r .worklist;
@@ -96,9 +96,9 @@ kept r =
 unfoldable pub takeUp : Roles → Weights → Tolerance → ℕ → Run → Run
 takeUp ρ w t k r =
     let q' = quality ρ w (r .standing ∖ single k) in
-    if isnt (strikable ρ (r .standing) k) then dropped k r
-    else if ltb (t .denominator * q') (t .numerator * r .reference) then struck k q' r
-    else kept r
+    if isnt (strikable ρ (r .standing) k) then afterDrop k r
+    else if ltb (t .denominator * q') (t .numerator * r .reference) then afterStrike k q' r
+    else afterStay r
 
 -- ---- the passes, over any function `take` that takes one role up
 
@@ -134,8 +134,9 @@ eliminated ρ w t R = passes ρ (takeUp ρ w t) (suc (candidateCount ρ)) (begin
 
 -- ---- review
 
-unfoldable pub restored : ℕ → ℕ → Run → Run
-restored k q r =
+-- the run after role k was taken up and restored, which leaves the quality q
+unfoldable pub afterRestore : ℕ → ℕ → Run → Run
+afterRestore k q r =
     record {
       standing = r .standing ∪ single k;
       worklist = r .worklist;
@@ -148,7 +149,7 @@ restored k q r =
 unfoldable pub tryRestore : Roles → Weights → ℕ → Run → Run
 tryRestore ρ w k r =
     let q' = quality ρ w (r .standing ∪ single k) in
-    if has (r .standing) k then r else if ltb q' (r .reference) then restored k q' r else kept r
+    if has (r .standing) k then r else if ltb q' (r .reference) then afterRestore k q' r else afterStay r
 
 -- "A pass takes up the absent candidates by growing number": those below k
 unfoldable pub reviewTo : Roles → Weights → ℕ → Run → Run
@@ -169,20 +170,21 @@ reviewed ρ w R = reviewPasses ρ w (suc (candidateCount ρ)) (begin ρ w 0 R)
 
 -- ---- calls and answers
 
+-- "Its steps", each with the numbers that it is fed
 pub data Call : Type 0 where
   strike : ℕ → Call
   restore : ℕ → Call
   eliminate : Weights → Tolerance → Call
   review : Weights → Call
 
--- a refusal's number, or 0, and the numbers beside it: how many roles a step struck or restored, and how many it took up
-pub record Answer : Type 0 where
+-- an answer: a refusal's number, or 0, and the numbers beside it: how many roles a run struck or restored, and how many it took up
+pub record Reply : Type 0 where
   pub code : ℕ
   pub changed : ℕ
   pub examined : ℕ
 
-unfoldable pub answer : ℕ → ℕ → ℕ → Answer
-answer code changed examined = record { code = code; changed = changed; examined = examined }
+unfoldable pub reply : ℕ → ℕ → ℕ → Reply
+reply code changed examined = record { code = code; changed = changed; examined = examined }
 
 -- the first of 6, 7, 8 and 9 that applies, or 0
 unfoldable pub refusal : State → Call → ℕ
@@ -191,7 +193,7 @@ refusal st (restore k) = roleRefusal (rolesOf st) k orElse standingRefusal (st .
 refusal st (eliminate w t) = weightsRefusal w orElse toleranceRefusal t
 refusal st (review w) = weightsRefusal w
 
--- the standing set and the numbers that an accepted step leaves
+-- the standing set and the numbers that an accepted step leaves: "R loses k", "R gains k", or a run
 unfoldable pub accepted : State → Call → Run
 accepted st (strike k) =
     record { standing = st .standing ∖ single k; worklist = 0; reference = 0; changed = 0; examined = 0 }
@@ -200,23 +202,24 @@ accepted st (restore k) =
 accepted st (eliminate w t) = eliminated (rolesOf st) w t (st .standing)
 accepted st (review w) = reviewed (rolesOf st) w (st .standing)
 
+-- what a step answers, and the state that it leaves
 pub record Outcome : Type 0 where
-  pub given : Answer
+  pub replied : Reply
   pub state : State
 
 -- "it keeps its state and answers the first such number and zeros. Otherwise it answers 0, with the numbers that the step names."
 unfoldable pub step : State → Call → Outcome
 step st call =
     let r = accepted st call in
-    if eqb (refusal st call) 0 then record { given = answer 0 (r .changed) (r .examined); state = standingNow st (r .standing) }
-    else record { given = answer (refusal st call) 0 0; state = st }
+    if eqb (refusal st call) 0 then record { replied = reply 0 (r .changed) (r .examined); state = standingNow st (r .standing) }
+    else record { replied = reply (refusal st call) 0 0; state = st }
 
--- ---- a list of calls
+-- ---- a list of calls: the state after it, and the answers
 
 unfoldable pub stateAfter : State → List Call → State
 stateAfter st [] = st
 stateAfter st (call ∷ calls) = stateAfter (step st call .state) calls
 
-unfoldable pub answersTo : State → List Call → List Answer
-answersTo st [] = []
-answersTo st (call ∷ calls) = step st call .given ∷ answersTo (step st call .state) calls
+unfoldable pub repliesTo : State → List Call → List Reply
+repliesTo st [] = []
+repliesTo st (call ∷ calls) = step st call .replied ∷ repliesTo (step st call .state) calls

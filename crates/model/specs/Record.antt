@@ -9,7 +9,7 @@ use lib.ListN.{length, getD}
 use Rattle.sets.specs.Truth.{_and_, if_then_else_, all}
 use Rattle.sets.specs.Words.{word}
 use Rattle.model.specs.Lists.{tabulate, setAt, rowsAt}
-use Rattle.model.specs.Hierarchy.{Rows, candidateCount, permissionSet, directPermissions, directMembers, immediateJuniors}
+use Rattle.model.specs.Hierarchy.{RoleRows, candidateCount, permissionSet, directPermissions, directMembers, immediateJuniors}
 use Rattle.model.specs.Coverage.{allCovered}
 use Rattle.model.specs.State.{State, mostUsers, mostPermissions, mostCandidates, rolesOf, withinLimits, rowsWithin}
 
@@ -70,8 +70,8 @@ stateOf ws =
     }
 
 -- the rows of its c roles that a record's words hold
-unfoldable pub rowsOf : List ℕ → Rows
-rowsOf ws =
+unfoldable pub roleRowsOf : List ℕ → RoleRows
+roleRowsOf ws =
     record {
       juniors = λ k. if ltb k (getD ws 2 0) then setAt 2 ws (juniorsStart + 2 * k) else 0;
       permissions = λ k. if ltb k (getD ws 2 0) then setAt 4 ws (permissionsStart + 4 * k) else 0;

@@ -11,7 +11,7 @@ use Rattle.model.specs.Candidates.{candidates}
 use Rattle.model.specs.Hierarchy.{Roles}
 
 pub record State : Type 0 where
-  -- n, m, and the crew row of each person
+  -- n, m, and the crew row of each user
   pub users : ℕ
   pub permissions : ℕ
   pub rows : List ℕ
