@@ -16,8 +16,8 @@ use Rattle.sets.proofs.Items.{has-zero, item-below}
 use Rattle.sets.proofs.Order.{∖-iff, ∖-lt, single-iff}
 use Rattle.sets.proofs.Counts.{ones-zero, ones-none}
 use Rattle.model.specs.Hierarchy.{Roles, candidateCount}
-use Rattle.model.specs.Coverage.{strikable, strikables}
-use Rattle.model.specs.Machine.{Run, redundancy, foremost, takeUpAll, pass, passes}
+use Rattle.model.specs.Coverage.{strikable}
+use Rattle.model.specs.Machine.{Run, foremost, takeUpAll, pass, passes}
 use Rattle.model.proofs.PassOrder.{foremost-has, left-after}
 
 -- ---- 1 + 2 + .. + n
@@ -105,21 +105,21 @@ module _ (ρ : Roles) (take : ℕ → Run → Run) where
   pub pass-keeps : (P : Run → Type 0) → ((k : ℕ) (r : Run) → k < candidateCount ρ → P r → P (take k r))
       → (r : Run) → r .worklist < 2 ^ candidateCount ρ → P r → P (pass ρ take r)
   unfolding pass
-  pass-keeps P one r b p = all-keep (redundancy ρ (strikables ρ (r .standing))) P one (ones (r .worklist)) (r .worklist) r b refl p
+  pass-keeps P one r b p = all-keep _ P one (ones (r .worklist)) (r .worklist) r b refl p
 
   -- it takes up each role of the worklist once
   pub pass-examined : ((k : ℕ) (r : Run) → take k r .examined ≡ suc (r .examined)) → (r : Run)
       → pass ρ take r .examined ≡ r .examined + ones (r .worklist)
   unfolding pass
-  pass-examined one r = all-examined (redundancy ρ (strikables ρ (r .standing))) one (ones (r .worklist)) (r .worklist) r
+  pass-examined one r = all-examined _ one (ones (r .worklist)) (r .worklist) r
 
   pub pass-changed : ((k : ℕ) (r : Run) → take k r .changed ≤ suc (r .changed)) → (r : Run) → pass ρ take r .changed ≤ r .changed + ones (r .worklist)
   unfolding pass
-  pass-changed one r = all-changed (redundancy ρ (strikables ρ (r .standing))) one (ones (r .worklist)) (r .worklist) r
+  pass-changed one r = all-changed _ one (ones (r .worklist)) (r .worklist) r
 
   pub pass-grows : ((k : ℕ) (r : Run) → r .changed ≤ take k r .changed) → (r : Run) → r .changed ≤ pass ρ take r .changed
   unfolding pass
-  pass-grows one r = all-grow (redundancy ρ (strikables ρ (r .standing))) one (ones (r .worklist)) (r .worklist) r
+  pass-grows one r = all-grow _ one (ones (r .worklist)) (r .worklist) r
 
   -- ---- all passes: the three ways in which the first of them goes
 
@@ -199,7 +199,7 @@ module _ (ρ : Roles) (take : ℕ → Run → Run) (G : Run → Type 0) (Left : 
   left-by-pass : (r : Run) → G r → pass ρ take r .changed ≡ r .changed → AllLeft (pass ρ take r)
   unfolding pass
   left-by-pass r g same k lk s =
-      let n = none-struck (redundancy ρ (strikables ρ (r .standing))) (ones (r .worklist)) (r .worklist) r (rules .listable r g) refl same in
+      let n = none-struck _ (ones (r .worklist)) (r .worklist) r (rules .listable r g) refl same in
       rw (n .0, n .1) (n .2 k (rules .listed r g k lk (rw (n .0) at s)))
 
   left-by-list : (r : Run) → G r → r .worklist ≡ 0 → AllLeft r
