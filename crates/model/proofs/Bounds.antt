@@ -7,11 +7,10 @@ use Prim.Native.Nat.{ℕ, zero, suc, _+_, _*_, _<_, _≤_, _^_}
 use native.Mathlib.Nat.{le-trans, mul-le-mul, le-refl, le-of-eq, not-suc-le-zero, mul-suc, suc-mul}
 use native.Mathlib.Decide.{le-ind}
 use native.Mathlib.Omega.{arith}
-use lib.Dec.{leb}
 use lib.Count.{ones, ones-le}
-use Rattle.sets.specs.Truth.{_and_, total}
+use Rattle.sets.specs.Truth.{total}
 use Rattle.sets.specs.Sets.{has}
-use Rattle.sets.proofs.Truth.{not-So, and-iff, leb-iff}
+use Rattle.sets.proofs.Truth.{not-So, reflect}
 use Rattle.sets.proofs.Items.{below-of-items}
 use Rattle.sets.proofs.Counts.{total-suc, total-≤, total-bound, total-zero}
 use Rattle.model.specs.Hierarchy.{Roles, candidateCount, immediateJuniors, directPermissions, directMembers, building}
@@ -23,23 +22,12 @@ use Rattle.model.proofs.Record.{directPermissions-lt, directMembers-lt}
 pub weightsAllowed-iff : (w : Weights)
     → So (weightsAllowed w) ↔ ((w .perRole ≤ mostWeight) × (w .perMember ≤ mostWeight) × (w .perPermission ≤ mostWeight) × (w .perLink ≤ mostWeight))
 unfolding weightsAllowed
-weightsAllowed-iff w =
-    let t1 = leb (w .perRole) mostWeight in
-    let t2 = leb (w .perMember) mostWeight in
-    let t3 = leb (w .perPermission) mostWeight in
-    let t4 = leb (w .perLink) mostWeight in (
-      λ h.
-          let a = and-iff (t1 and t2 and t3) t4 .0 h in
-          let b = and-iff (t1 and t2) t3 .0 (a .0) in
-          let d = and-iff t1 t2 .0 (b .0) in
-          (leb-iff (w .perRole) mostWeight .0 (d .0), leb-iff (w .perMember) mostWeight .0 (d .1), leb-iff (w .perPermission) mostWeight .0 (b .1), leb-iff (w .perLink) mostWeight .0 (a .1)),
-      λ f.
-          and-iff (t1 and t2 and t3) t4 .1 (
-            and-iff (t1 and t2) t3 .1
-                (and-iff t1 t2 .1 (leb-iff (w .perRole) mostWeight .1 (f .0), leb-iff (w .perMember) mostWeight .1 (f .1)), leb-iff (w .perPermission) mostWeight .1 (f .2)),
-            leb-iff (w .perLink) mostWeight .1 (f .3),
-          ),
-    )
+weightsAllowed-iff w = (
+  λ h.
+      let x : (((w .perRole ≤ mostWeight) × (w .perMember ≤ mostWeight)) × (w .perPermission ≤ mostWeight)) × (w .perLink ≤ mostWeight) = simp reflect at h in
+      (x .0 .0 .0, x .0 .0 .1, x .0 .1, x .1),
+  λ f. simp reflect (((f .0, f .1), f .2), f .3),
+)
 
 -- "b from 1 to 1,000, and a/b from 1 to 2"
 pub tolerance-iff : (t : Tolerance)
@@ -49,16 +37,9 @@ tolerance-iff t =
     let a = t .numerator in
     let b = t .denominator in (
       λ h.
-          let x = and-iff (leb 1 b and leb b mostDenominator and leb b a) (leb a (2 * b)) .0 h in
-          let y = and-iff (leb 1 b and leb b mostDenominator) (leb b a) .0 (x .0) in
-          let z = and-iff (leb 1 b) (leb b mostDenominator) .0 (y .0) in
-          (leb-iff 1 b .0 (z .0), leb-iff b mostDenominator .0 (z .1), leb-iff b a .0 (y .1), leb-iff a (2 * b) .0 (x .1)),
-      λ f.
-          and-iff (leb 1 b and leb b mostDenominator and leb b a) (leb a (2 * b)) .1 (
-            and-iff (leb 1 b and leb b mostDenominator) (leb b a) .1
-                (and-iff (leb 1 b) (leb b mostDenominator) .1 (leb-iff 1 b .1 (f .0), leb-iff b mostDenominator .1 (f .1)), leb-iff b a .1 (f .2)),
-            leb-iff a (2 * b) .1 (f .3),
-          ),
+          let x : (((1 ≤ b) × (b ≤ mostDenominator)) × (b ≤ a)) × (a ≤ 2 * b) = simp reflect at h in
+          (x .0 .0 .0, x .0 .0 .1, x .0 .1, x .1),
+      λ f. simp reflect (((f .0, f .1), f .2), f .3),
     )
 
 -- "The counts are at most 128, 16,384, 32,768 and 8,128."

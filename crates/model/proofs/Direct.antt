@@ -10,7 +10,7 @@ use native.Mathlib.Omega.{arith}
 use lib.Count.{ones}
 use Rattle.sets.specs.Truth.{_and_, none}
 use Rattle.sets.specs.Sets.{has, _∩_, _∖_, single}
-use Rattle.sets.proofs.Truth.{by-test, So-not, and-iff, none-of, none-is, find, equal-or}
+use Rattle.sets.proofs.Truth.{by-test, So-not, and-iff, find, equal-or, reflect}
 use Rattle.sets.proofs.Items.{same-set, has-zero, empty-of}
 use Rattle.sets.proofs.Order.{∩-iff, ∖-iff, single-iff, collect-iff, collect-lt}
 use Rattle.sets.proofs.Counts.{ones-∖}
@@ -21,23 +21,13 @@ module _ (n c R : ℕ) (takes : ℕ → ℕ → Bool) (own : ℕ → ℕ) where
       → So (has (directOf n c R takes own k) i)
       ↔ ((i < n) × So (has R k) × So (has (own k) i) × ((j : ℕ) → j < c → So (takes j k) → So (has (own j) i) → ⊥))
   unfolding directOf
-  direct-iff k i =
-      let taken : ℕ → ℕ → Bool = λ i j. takes j k and has (own j) i in
-      let test : ℕ → Bool = λ i. has R k and has (own k) i and none c (taken i) in (
-        λ h.
-            let a = collect-iff n test i .0 h in
-            let b = and-iff (has R k and has (own k) i) (none c (taken i)) .0 (a .1) in
-            let d = and-iff (has R k) (has (own k) i) .0 (b .0) in
-            (a .0, d .0, d .1, λ j l s t. none-is c (taken i) (b .1) j l (and-iff (takes j k) (has (own j) i) .1 (s, t))),
-        λ f.
-            collect-iff n test i .1 (
-              f .0,
-              and-iff (has R k and has (own k) i) (none c (taken i)) .1 (
-                and-iff (has R k) (has (own k) i) .1 (f .1, f .2),
-                none-of c (taken i) (λ j l b. let d = and-iff (takes j k) (has (own j) i) .0 b in f .3 j l (d .0) (d .1)),
-              ),
-            ),
-      )
+  direct-iff k i = (
+    λ h.
+        let x : (So (has R k) × So (has (own k) i)) × ((j : ℕ) → j < c → So (takes j k) × So (has (own j) i) → ⊥) =
+        simp reflect at (collect-iff n _ i .0 h .1) in
+        (collect-iff n _ i .0 h .0, x .0 .0, x .0 .1, λ j l s t. x .1 j l (s, t)),
+    λ f. collect-iff n _ i .1 (f .0, simp reflect ((f .1, f .2), λ j l x. f .3 j l (x .0) (x .1))),
+  )
 
   pub direct-lt : (k : ℕ) → directOf n c R takes own k < 2 ^ n
   unfolding directOf

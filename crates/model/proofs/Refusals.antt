@@ -11,7 +11,7 @@ use lib.Dec.{eqb, leb, ltb}
 use lib.ListN.{length}
 use Rattle.sets.specs.Truth.{_and_, isnt}
 use Rattle.sets.specs.Sets.{has}
-use Rattle.sets.proofs.Truth.{So-not, not-So, by-test, equal-or, and-iff, isnt-iff, eqb-iff, leb-iff, ltb-iff}
+use Rattle.sets.proofs.Truth.{So-not, not-So, by-test, equal-or, isnt-iff, eqb-iff, leb-iff, ltb-iff, reflect}
 use Rattle.model.specs.Lists.{rowsAt}
 use Rattle.model.specs.Candidates.{candidates}
 use Rattle.model.specs.Hierarchy.{Roles, candidateCount}
@@ -127,11 +127,7 @@ role-check ρ k = check 6 (ltb k (candidateCount ρ)) _ (omega arith) (ltb-iff k
 
 pub pair-check : (n m u p : ℕ) → Check (pairRefusal n m u p) 6 ((u < n) × (p < m))
 unfolding pairRefusal
-pair-check n m u p =
-    check 6 (ltb u n and ltb p m) _ (omega arith) (
-      λ h. let a = and-iff (ltb u n) (ltb p m) .0 h in (ltb-iff u n .0 (a .0), ltb-iff p m .0 (a .1)),
-      λ f. and-iff (ltb u n) (ltb p m) .1 (ltb-iff u n .1 (f .0), ltb-iff p m .1 (f .1)),
-    )
+pair-check n m u p = check 6 (ltb u n and ltb p m) _ (omega arith) (λ h. simp reflect at h, λ f. simp reflect f)
 
 pub absent-check : (R k : ℕ) → Check (absentRefusal R k) 7 (So (has R k))
 unfolding absentRefusal
