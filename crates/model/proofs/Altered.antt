@@ -1,23 +1,26 @@
 -- Of all words of the record built afresh, a strike or a restoration alters only those that the paper allows.
 -- Assumes nothing.
 use mathlib.Core.Path.{_≡_, refl, sym, _∙_, ap}
-use mathlib.Core.Bool.{So}
+use mathlib.Core.Bool.{Bool, So}
 use mathlib.Core.Logic.{_↔_, _≢_, _⊎_, ⊎-elim}
+use mathlib.Core.List.{List}
 use Prim.Native.Nat.{ℕ, zero, suc, _+_, _*_, _<_}
 use native.Mathlib.Nat.{lt-irrefl}
 use native.Mathlib.Omega.{arith}
-use lib.Dec.{eqb, leb, ltb}
-use Rattle.sets.specs.Truth.{_or_}
-use Rattle.sets.specs.Sets.{has, _∖_, single}
+use lib.Dec.{leb, ltb}
+use Rattle.sets.specs.Truth.{_and_, _or_, any}
+use Rattle.sets.specs.Sets.{has, _∖_}
 use Rattle.sets.specs.Words.{word}
-use Rattle.sets.proofs.Truth.{same-test, and-iff, or-iff, eqb-iff, leb-iff, ltb-iff, either}
+use Rattle.sets.proofs.Truth.{same-test, and-iff, or-iff, any-iff, leb-iff, ltb-iff, either}
+use Rattle.sets.proofs.Order.{∖-iff, ∖-lt}
 use Rattle.model.specs.Hierarchy.{Roles, candidateCount, immediatelySenior, immediateJuniors, directPermissions, directMembers}
 use Rattle.model.specs.State.{State, rolesOf, standingNow}
 use Rattle.model.specs.Record.{recordLength, permissionsStart, membersStart, juniorsStart, headerWord, wordAt, built, Limits}
 use Rattle.model.specs.Altered.{inside, rowWord, concerned, Altered}
-use Rattle.model.proofs.Reading.{Ordered}
-use Rattle.model.proofs.Building.{stands-below, absent-juniors, absent-permissions, absent-members}
-use Rattle.model.proofs.Changes.{stands-other, juniors-same, permissions-same, members-same}
+use Rattle.model.proofs.Reading.{Ordered, immediate-iff}
+use Rattle.model.proofs.Building.{stands-below, senior-stands, absent-juniors, absent-permissions, absent-members}
+use Rattle.model.proofs.Changes.{juniors-left, permissions-left, members-left}
+use Rattle.model.proofs.Steps.{limits-ordered, limits-now}
 use Rattle.model.proofs.Record.{by-region, word-head, word-crew, word-set, word-permissions, word-members, word-juniors, built-word, read-standing}
 
 inside-of : (w at j : ℕ) → j < w → So (inside w at (at + j))
@@ -45,18 +48,28 @@ row-juniors r j h =
     or-iff (inside 4 (permissionsStart + 4 * r) i or inside 2 (membersStart + 2 * r) i) (inside 2 (juniorsStart + 2 * r) i) .1
     (_⊎_.inr (inside-of 2 (juniorsStart + 2 * r) j h))
 
-pub concerned-iff : (ρ : Roles) (R k r : ℕ)
-    → So (concerned ρ R k r) ↔ ((r ≡ k) ⊎ (So (immediatelySenior ρ R r k) ⊎ So (immediatelySenior ρ R k r)))
+pub concerned-iff : (ρ : Roles) (R s r : ℕ)
+    → So (concerned ρ R s r)
+    ↔ (So (has s r) ⊎ ((k : ℕ) × (k < candidateCount ρ) × So (has s k) × (So (immediatelySenior ρ R r k) ⊎ So (immediatelySenior ρ R k r))))
 unfolding concerned
-concerned-iff ρ R k r = (
-  λ h.
-      ⊎-elim (λ a. ⊎-elim (λ e. _⊎_.inl (eqb-iff r k .0 e)) (λ s. _⊎_.inr (_⊎_.inl s)) (or-iff (eqb r k) (immediatelySenior ρ R r k) .0 a))
-      (λ s. _⊎_.inr (_⊎_.inr s)) (or-iff (eqb r k or immediatelySenior ρ R r k) (immediatelySenior ρ R k r) .0 h),
-  λ d.
-      or-iff (eqb r k or immediatelySenior ρ R r k) (immediatelySenior ρ R k r) .1
-      (⊎-elim (λ e. _⊎_.inl (or-iff (eqb r k) (immediatelySenior ρ R r k) .1 (_⊎_.inl (eqb-iff r k .1 e))))
-      (λ s. ⊎-elim (λ a. _⊎_.inl (or-iff (eqb r k) (immediatelySenior ρ R r k) .1 (_⊎_.inr a))) (λ b. _⊎_.inr b) s) d),
-)
+concerned-iff ρ R s r =
+    let beside : ℕ → Bool = λ k. immediatelySenior ρ R r k or immediatelySenior ρ R k r in
+    let some = any (candidateCount ρ) (λ k. has s k and beside k) in (
+      λ h.
+          ⊎-elim (λ x. _⊎_.inl x)
+          (λ x.
+          let w = any-iff (candidateCount ρ) (λ k. has s k and beside k) .0 x in
+          let b = and-iff (has s (w .0)) (beside (w .0)) .0 (w .2) in
+          _⊎_.inr (w .0, w .1, b .0, or-iff (immediatelySenior ρ R r (w .0)) (immediatelySenior ρ R (w .0) r) .0 (b .1)))
+          (or-iff (has s r) some .0 h),
+      λ d.
+          or-iff (has s r) some .1
+          (⊎-elim (λ x. _⊎_.inl x)
+          (λ w.
+          _⊎_.inr
+          (any-iff (candidateCount ρ) (λ k. has s k and beside k) .1
+          (w .0, w .1, and-iff (has s (w .0)) (beside (w .0)) .1 (w .2, or-iff (immediatelySenior ρ R r (w .0)) (immediatelySenior ρ R (w .0) r) .1 (w .3))))) d),
+    )
 
 pub same-head : (st : State) (R i : ℕ) → i ≢ 4 → i ≢ 5 → headerWord st i ≡ headerWord (standingNow st R) i
 unfolding headerWord standingNow rolesOf
@@ -70,36 +83,50 @@ same-head st R (suc (suc (suc (suc (suc (suc zero)))))) d4 d5 = refl
 same-head st R (suc (suc (suc (suc (suc (suc (suc zero))))))) d4 d5 = refl
 same-head st R (suc (suc (suc (suc (suc (suc (suc (suc i)))))))) d4 d5 = refl
 
-module _ (st : State) (k : ℕ) (o : Ordered (rolesOf st) (st .standing)) where
-  -- the same crew list without k
+-- what a change altered it altered on the way back
+pub altered-back : (ρ : Roles) (R s : ℕ) (before after : List ℕ) → Altered ρ R s before after → Altered ρ R s after before
+altered-back ρ R s before after a = record { marks = λ j d. sym (a .marks j d); rows = λ i l d4 d5 h. sym (a .rows i l d4 d5 h) }
+
+module _ (st : State) (s : ℕ) (lim : Limits st) where
+  abbrev ρ : Roles
+  ρ = rolesOf st
+
+  abbrev R : ℕ
+  R = st .standing
+
+  -- the same crew list without the roles of s
   abbrev less : State
-  less = standingNow st (st .standing ∖ single k)
+  less = standingNow st (st .standing ∖ s)
+
+  o : Ordered (rolesOf st) (st .standing)
+  o = limits-ordered st lim
 
   -- no role that is concerned has word i in its row
   abbrev Untouched : ℕ → Type 0
-  Untouched i = (r : ℕ) → r < candidateCount (rolesOf st) → So (concerned (rolesOf st) (st .standing) k r) → So (rowWord r i) → ⊥
+  Untouched i = (r : ℕ) → r < candidateCount (rolesOf st) → So (concerned (rolesOf st) (st .standing) s r) → So (rowWord r i) → ⊥
 
-  -- a row of role r that no change of k concerns, whatever kind of row it is
+  -- a row of role r that is not concerned, whatever kind of row it is
   kept-row : (f g : ℕ → ℕ) (r : ℕ)
-      → ((r ≢ k) → (So (immediatelySenior (rolesOf st) (st .standing) r k) → ⊥) → (So (immediatelySenior (rolesOf st) (st .standing) k r) → ⊥) → f r ≡ g r)
-      → ((So (has (st .standing) r) → ⊥) → f r ≡ 0) → ((So (has (st .standing ∖ single k) r) → ⊥) → g r ≡ 0)
-      → (r < candidateCount (rolesOf st) → So (concerned (rolesOf st) (st .standing) k r) → ⊥) → f r ≡ g r
+      → ((So (has s r) → ⊥) → ((t : ℕ) → So (has s t) → So (immediatelySenior ρ R r t) → ⊥) → ((t : ℕ) → So (has s t) → So (immediatelySenior ρ R t r) → ⊥) → g r ≡ f r)
+      → ((So (has R r) → ⊥) → f r ≡ 0) → ((So (has (R ∖ s) r) → ⊥) → g r ≡ 0)
+      → (r < candidateCount ρ → So (concerned ρ R s r) → ⊥) → f r ≡ g r
   kept-row f g r same fz gz h =
-      either r (candidateCount (rolesOf st))
+      let low : (k j : ℕ) → So (immediatelySenior ρ R k j) → (k < candidateCount ρ) × (j < candidateCount ρ) =
+      λ k j x. let a = senior-stands ρ R o k j (immediate-iff ρ R k j .0 x .0) in (stands-below ρ R o k (a .0), stands-below ρ R o j (a .1)) in
+      either r (candidateCount ρ)
       (λ l.
-      same (λ e. h l (concerned-iff (rolesOf st) (st .standing) k r .1 (_⊎_.inl e)))
-      (λ s. h l (concerned-iff (rolesOf st) (st .standing) k r .1 (_⊎_.inr (_⊎_.inl s))))
-      (λ s. h l (concerned-iff (rolesOf st) (st .standing) k r .1 (_⊎_.inr (_⊎_.inr s)))))
+      sym
+      (same (λ x. h l (concerned-iff ρ R s r .1 (_⊎_.inl x)))
+      (λ t x y. h l (concerned-iff ρ R s r .1 (_⊎_.inr (t, low r t y .1, x, _⊎_.inl y))))
+      (λ t x y. h l (concerned-iff ρ R s r .1 (_⊎_.inr (t, low t r y .0, x, _⊎_.inr y))))))
       (λ l.
-      let out : So (has (st .standing) r) → ⊥ = λ t. lt-irrefl r (omega (arith, stands-below (rolesOf st) (st .standing) o r t)) in
-      fz out ∙ sym (gz (λ t. out (stands-other (rolesOf st) (st .standing) o k r .0 t .0))))
+      let out : So (has R r) → ⊥ = λ x. lt-irrefl r (omega (arith, stands-below ρ R o r x)) in
+      fz out ∙ sym (gz (λ x. out (∖-iff R s r .0 x .0))))
 
   same-word : (i : ℕ) → i < recordLength → i ≢ 4 → i ≢ 5 → Untouched i → wordAt st i ≡ wordAt less i
   unfolding standingNow rolesOf
   same-word =
-      let ρ = rolesOf st in
-      let R = st .standing in
-      let R' = st .standing ∖ single k in
+      let R' = st .standing ∖ s in
       by-region (λ i. i ≢ 4 → i ≢ 5 → Untouched i → wordAt st i ≡ wordAt less i)
       (λ i l d4 d5 _. word-head st i l ∙ same-head st R' i d4 d5 ∙ sym (word-head less i l))
       (λ u j lu lj _ _ _. word-crew st u j lu lj ∙ sym (word-crew less u j lu lj))
@@ -107,39 +134,35 @@ module _ (st : State) (k : ℕ) (o : Ordered (rolesOf st) (st .standing)) where
       (λ r j lr lj _ _ h.
       word-permissions st r j lr lj
       ∙ ap (λ (x : ℕ). word x j)
-      (kept-row (directPermissions ρ R) (directPermissions ρ R') r (λ d s t. sym (permissions-same ρ R o k r d s)) (absent-permissions ρ R r)
+      (kept-row (directPermissions ρ R) (directPermissions ρ R') r (λ d below _. permissions-left ρ R o s r d below) (absent-permissions ρ R r)
       (absent-permissions ρ R' r) (λ l c. h r l c (row-permissions r j lj)))
       ∙ sym (word-permissions less r j lr lj))
       (λ r j lr lj _ _ h.
       word-members st r j lr lj
       ∙ ap (λ (x : ℕ). word x j)
-      (kept-row (directMembers ρ R) (directMembers ρ R') r (λ d s t. sym (members-same ρ R o k r d t)) (absent-members ρ R r)
+      (kept-row (directMembers ρ R) (directMembers ρ R') r (λ d _ above. members-left ρ R o s r d above) (absent-members ρ R r)
       (absent-members ρ R' r) (λ l c. h r l c (row-members r j lj)))
       ∙ sym (word-members less r j lr lj))
       (λ r j lr lj _ _ h.
       word-juniors st r j lr lj
       ∙ ap (λ (x : ℕ). word x j)
-      (kept-row (immediateJuniors ρ R) (immediateJuniors ρ R') r (λ d s t. sym (juniors-same ρ R o k r d s)) (absent-juniors ρ R r)
+      (kept-row (immediateJuniors ρ R) (immediateJuniors ρ R') r (λ d below _. juniors-left ρ R o s r d below) (absent-juniors ρ R r)
       (absent-juniors ρ R' r) (λ l c. h r l c (row-juniors r j lj)))
       ∙ sym (word-juniors less r j lr lj))
 
-  -- a strike, from the record with k to that without
-  pub strike-altered : Limits st → Limits less → Altered (rolesOf st) (st .standing) k (built st) (built less)
+  -- a strike, from the record with the roles of s to that without
+  pub strike-altered : Altered (rolesOf st) (st .standing) s (built st) (built (standingNow st (st .standing ∖ s)))
   unfolding standingNow
-  strike-altered lim lim' =
+  strike-altered =
+      let lim' = limits-now st (R ∖ s) lim (∖-lt (candidateCount ρ) R s (lim .standing-below)) in
       record {
         marks = λ j d.
-            ap (λ (x : ℕ). has x j) (read-standing st lim) ∙ same-mark j d ∙ ap (λ (x : ℕ). has x j) (sym (read-standing less lim'));
+            ap (λ (x : ℕ). has x j) (read-standing st lim)
+            ∙ same-test (has R j) (has (R ∖ s) j) (λ t. ∖-iff R s j .1 (t, d)) (λ t. ∖-iff R s j .0 t .0)
+            ∙ ap (λ (x : ℕ). has x j) (sym (read-standing less lim'));
         rows = λ i l d4 d5 h. built-word st i l ∙ same-word i l d4 d5 h ∙ sym (built-word less i l);
       }
-    where
-      same-mark : (j : ℕ) → j ≢ k → has (st .standing) j ≡ has (st .standing ∖ single k) j
-      same-mark j d =
-          same-test (has (st .standing) j) (has (st .standing ∖ single k) j)
-          (λ t. stands-other (rolesOf st) (st .standing) o k j .1 (t, d)) (λ t. stands-other (rolesOf st) (st .standing) o k j .0 t .0)
 
   -- a restoration, the other way round
-  pub restore-altered : Limits st → Limits less → Altered (rolesOf st) (st .standing) k (built less) (built st)
-  restore-altered lim lim' =
-      let a = strike-altered lim lim' in
-      record { marks = λ j d. sym (a .marks j d); rows = λ i l d4 d5 h. sym (a .rows i l d4 d5 h) }
+  pub restore-altered : Altered (rolesOf st) (st .standing) s (built (standingNow st (st .standing ∖ s))) (built st)
+  restore-altered = altered-back ρ R s (built st) (built less) strike-altered

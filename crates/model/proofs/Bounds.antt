@@ -7,59 +7,39 @@ use Prim.Native.Nat.{ℕ, zero, suc, _+_, _*_, _<_, _≤_, _^_}
 use native.Mathlib.Nat.{le-trans, mul-le-mul, le-refl, le-of-eq, not-suc-le-zero, mul-suc, suc-mul}
 use native.Mathlib.Decide.{le-ind}
 use native.Mathlib.Omega.{arith}
-use lib.Dec.{leb}
 use lib.Count.{ones, ones-le}
-use Rattle.sets.specs.Truth.{_and_, total}
+use Rattle.sets.specs.Truth.{total}
 use Rattle.sets.specs.Sets.{has}
-use Rattle.sets.proofs.Truth.{not-So, and-iff, leb-iff}
+use Rattle.sets.proofs.Truth.{not-So, reflect}
 use Rattle.sets.proofs.Items.{below-of-items}
 use Rattle.sets.proofs.Counts.{total-suc, total-≤, total-bound, total-zero}
 use Rattle.model.specs.Hierarchy.{Roles, candidateCount, immediateJuniors, directPermissions, directMembers, building}
-use Rattle.model.specs.Quality.{Weights, Counts, weightsAllowed, counted, counts, weigh}
-use Rattle.model.specs.Machine.{Tolerance, toleranceAllowed}
+use Rattle.model.specs.Quality.{mostWeight, mostDenominator, Weights, Counts, weightsAllowed, counted, counts, weigh, Tolerance, toleranceAllowed}
 use Rattle.model.proofs.Reading.{Ordered, immediate-iff, junior-iff}
 use Rattle.model.proofs.Building.{senior-lower}
 use Rattle.model.proofs.Record.{directPermissions-lt, directMembers-lt}
 
 pub weightsAllowed-iff : (w : Weights)
-    → So (weightsAllowed w) ↔ ((w .perRole ≤ 1000) × (w .perMember ≤ 1000) × (w .perPermission ≤ 1000) × (w .perLink ≤ 1000))
+    → So (weightsAllowed w) ↔ ((w .perRole ≤ mostWeight) × (w .perMember ≤ mostWeight) × (w .perPermission ≤ mostWeight) × (w .perLink ≤ mostWeight))
 unfolding weightsAllowed
-weightsAllowed-iff w =
-    let t1 = leb (w .perRole) 1000 in
-    let t2 = leb (w .perMember) 1000 in
-    let t3 = leb (w .perPermission) 1000 in
-    let t4 = leb (w .perLink) 1000 in (
-      λ h.
-          let a = and-iff (t1 and t2 and t3) t4 .0 h in
-          let b = and-iff (t1 and t2) t3 .0 (a .0) in
-          let d = and-iff t1 t2 .0 (b .0) in
-          (leb-iff (w .perRole) 1000 .0 (d .0), leb-iff (w .perMember) 1000 .0 (d .1), leb-iff (w .perPermission) 1000 .0 (b .1), leb-iff (w .perLink) 1000 .0 (a .1)),
-      λ f.
-          and-iff (t1 and t2 and t3) t4 .1 (
-            and-iff (t1 and t2) t3 .1
-                (and-iff t1 t2 .1 (leb-iff (w .perRole) 1000 .1 (f .0), leb-iff (w .perMember) 1000 .1 (f .1)), leb-iff (w .perPermission) 1000 .1 (f .2)),
-            leb-iff (w .perLink) 1000 .1 (f .3),
-          ),
-    )
+weightsAllowed-iff w = (
+  λ h.
+      let x : (((w .perRole ≤ mostWeight) × (w .perMember ≤ mostWeight)) × (w .perPermission ≤ mostWeight)) × (w .perLink ≤ mostWeight) = simp reflect at h in
+      (x .0 .0 .0, x .0 .0 .1, x .0 .1, x .1),
+  λ f. simp reflect (((f .0, f .1), f .2), f .3),
+)
 
 -- "b from 1 to 1,000, and a/b from 1 to 2"
 pub tolerance-iff : (t : Tolerance)
-    → So (toleranceAllowed t) ↔ ((1 ≤ t .denominator) × (t .denominator ≤ 1000) × (t .denominator ≤ t .numerator) × (t .numerator ≤ 2 * t .denominator))
+    → So (toleranceAllowed t) ↔ ((1 ≤ t .denominator) × (t .denominator ≤ mostDenominator) × (t .denominator ≤ t .numerator) × (t .numerator ≤ 2 * t .denominator))
 unfolding toleranceAllowed
 tolerance-iff t =
     let a = t .numerator in
     let b = t .denominator in (
       λ h.
-          let x = and-iff (leb 1 b and leb b 1000 and leb b a) (leb a (2 * b)) .0 h in
-          let y = and-iff (leb 1 b and leb b 1000) (leb b a) .0 (x .0) in
-          let z = and-iff (leb 1 b) (leb b 1000) .0 (y .0) in
-          (leb-iff 1 b .0 (z .0), leb-iff b 1000 .0 (z .1), leb-iff b a .0 (y .1), leb-iff a (2 * b) .0 (x .1)),
-      λ f.
-          and-iff (leb 1 b and leb b 1000 and leb b a) (leb a (2 * b)) .1 (
-            and-iff (leb 1 b and leb b 1000) (leb b a) .1
-                (and-iff (leb 1 b) (leb b 1000) .1 (leb-iff 1 b .1 (f .0), leb-iff b 1000 .1 (f .1)), leb-iff b a .1 (f .2)),
-            leb-iff a (2 * b) .1 (f .3),
-          ),
+          let x : (((1 ≤ b) × (b ≤ mostDenominator)) × (b ≤ a)) × (a ≤ 2 * b) = simp reflect at h in
+          (x .0 .0 .0, x .0 .0 .1, x .0 .1, x .1),
+      λ f. simp reflect (((f .0, f .1), f .2), f .3),
     )
 
 -- "The counts are at most 128, 16,384, 32,768 and 8,128."
@@ -81,11 +61,10 @@ links-most : total 128 (λ k. k) ≡ 8128
 links-most = omega (arith, twice-below 128)
 
 module _ (ρ : Roles) (R : ℕ) (o : Ordered ρ R) (fewUsers : ρ .users ≤ 128) (fewPermissions : ρ .permissions ≤ 256) (fewRoles : candidateCount ρ ≤ 128) where
-  members-few : (k : ℕ) → ones (directMembers ρ R k) ≤ 128
-  members-few k = le-trans (ones-le (ρ .users) (directMembers ρ R k) (directMembers-lt ρ R k)) fewUsers
-
-  permissions-few : (k : ℕ) → ones (directPermissions ρ R k) ≤ 256
-  permissions-few k = le-trans (ones-le (ρ .permissions) (directPermissions ρ R k) (directPermissions-lt ρ R k)) fewPermissions
+  -- of sets of n items, one for each role, at most so many in all
+  in-all : (n most : ℕ) (f : ℕ → ℕ) → ((k : ℕ) → f k < 2 ^ n) → n ≤ most → total (candidateCount ρ) (λ k. ones (f k)) ≤ 128 * most
+  in-all n most f b l =
+      le-trans (total-bound (candidateCount ρ) most (λ k. ones (f k)) (λ k _. le-trans (ones-le n (f k) (b k)) l)) (mul-le-mul fewRoles (le-refl most))
 
   -- an immediate junior has a lower number
   juniors-few : (k : ℕ) → ones (immediateJuniors ρ R k) ≤ k
@@ -105,8 +84,8 @@ module _ (ρ : Roles) (R : ℕ) (o : Ordered ρ R) (fewUsers : ρ .users ≤ 128
       let c = candidateCount ρ in
       record {
         roles = le-trans (ones-le c R (o .below)) fewRoles;
-        members = le-trans (total-bound c 128 (λ k. ones (directMembers ρ R k)) (λ k l. members-few k)) (mul-le-mul fewRoles (le-refl 128));
-        permissions = le-trans (total-bound c 256 (λ k. ones (directPermissions ρ R k)) (λ k l. permissions-few k)) (mul-le-mul fewRoles (le-refl 256));
+        members = in-all (ρ .users) 128 (directMembers ρ R) (directMembers-lt ρ R) fewUsers;
+        permissions = in-all (ρ .permissions) 256 (directPermissions ρ R) (directPermissions-lt ρ R) fewPermissions;
         links = le-trans (total-≤ c (λ k. ones (immediateJuniors ρ R k)) (λ k. k) (λ k l. juniors-few k)) (le-trans (total-more c 128 (λ k. k) fewRoles) (le-of-eq links-most));
       }
 

@@ -1,10 +1,10 @@
 -- The building of a standing set: no chain returns to its start, no link could be replaced by a chain, every senior and junior are joined
 -- by a chain, and authorised means covered.
 -- Assumes nothing.
-use mathlib.Core.Path.{_≡_, refl}
+use mathlib.Core.Path.{_≡_, refl, sym}
 use mathlib.Core.Bool.{Bool, So}
 use mathlib.Core.Logic.{_↔_, _≢_, _⊎_, ⊎-elim}
-use Prim.Native.Nat.{ℕ, zero, suc, _+_, _<_, _≤_}
+use Prim.Native.Nat.{ℕ, zero, suc, _+_, _-_, _<_}
 use native.Mathlib.Nat.{lt-irrefl}
 use native.Mathlib.Omega.{arith}
 use lib.Dec.{eqb}
@@ -15,11 +15,12 @@ use Rattle.sets.proofs.Truth.{and-iff, isnt-iff, eqb-iff, find}
 use Rattle.sets.proofs.Items.{item-below, empty-of}
 use Rattle.sets.proofs.Order.{subset-iff, subset-trans, proper-subset, proper-trans}
 use Rattle.model.specs.Hierarchy.{Roles, candidateCount, permissionSet, authorisedUsers, senior, immediatelySenior, immediateJuniors, directPermissions, directMembers, building}
-use Rattle.model.specs.Chains.{link, Chain, other, Reaches, may}
+use Rattle.model.specs.Chains.{link, Chain, linksBut, Reaches, may}
 use Rattle.model.specs.Chains.Chain.{one, more}
 use Rattle.model.specs.Coverage.{grant, covered, allCovered}
+use Rattle.model.proofs.Direct.{direct-absent, Side, last-direct}
 use Rattle.model.proofs.Reading.{Ordered, user-iff, covers-iff, covered-iff, allCovered-iff, senior-iff, immediate-iff, junior-iff, permission-iff, member-iff}
-use Rattle.model.proofs.Chains.{RowsBelow, chain-append, may-iff}
+use Rattle.model.proofs.Chains.{RoleRowsBelow, chain-append, may-iff}
 
 -- "Roles outside R have zero rows"
 module _ (ρ : Roles) (R k : ℕ) (absent : So (has R k) → ⊥) where
@@ -28,10 +29,12 @@ module _ (ρ : Roles) (R k : ℕ) (absent : So (has R k) → ⊥) where
       empty-of (immediateJuniors ρ R k) (λ j t. absent (senior-iff ρ R k j .0 (immediate-iff ρ R k j .0 (junior-iff ρ R k j .0 t .1) .0) .0))
 
   pub absent-permissions : directPermissions ρ R k ≡ 0
-  absent-permissions = empty-of (directPermissions ρ R k) (λ p t. absent (permission-iff ρ R k p .0 t .1))
+  unfolding directPermissions
+  absent-permissions = direct-absent (ρ .permissions) (candidateCount ρ) R (λ j k. senior ρ R k j) (permissionSet ρ) k absent
 
   pub absent-members : directMembers ρ R k ≡ 0
-  absent-members = empty-of (directMembers ρ R k) (λ u t. absent (member-iff ρ R k u .0 t .1))
+  unfolding directMembers
+  absent-members = direct-absent (ρ .users) (candidateCount ρ) R (senior ρ R) (authorisedUsers ρ) k absent
 
 module _ (ρ : Roles) (R : ℕ) (o : Ordered ρ R) where
   pub stands-below : (k : ℕ) → So (has R k) → k < candidateCount ρ
@@ -68,6 +71,29 @@ module _ (ρ : Roles) (R : ℕ) (o : Ordered ρ R) where
             (proper-subset (permissionSet ρ j) (permissionSet ρ k) (senior-iff ρ R k j .0 h .2)) (a .1),
       )
 
+  -- the two sides of the building: juniors take permissions from a role, seniors take members
+  pub juniors-side : Side (candidateCount ρ) R (λ j k. senior ρ R k j) (permissionSet ρ)
+  juniors-side =
+      record {
+        below = stands-below;
+        stands = λ j k h. let a = senior-stands k j h in (a .1, a .0);
+        trans = λ i j k p q. senior-trans k j i q p;
+        holds = λ j k p. senior-permission k j p;
+        height = λ k. k;
+        falls = λ j k. senior-lower k j;
+      }
+
+  pub seniors-side : Side (candidateCount ρ) R (senior ρ R) (authorisedUsers ρ)
+  seniors-side =
+      record {
+        below = stands-below;
+        stands = senior-stands;
+        trans = senior-trans;
+        holds = senior-user;
+        height = λ k. candidateCount ρ - k;
+        falls = λ i k h. let l = senior-lower i k h in let b = stands-below i (senior-stands i k h .0) in omega arith;
+      }
+
   -- ---- links and chains
 
   pub link-iff : (k j : ℕ) → So (link (building ρ R) k j) ↔ So (immediatelySenior ρ R k j)
@@ -88,24 +114,24 @@ module _ (ρ : Roles) (R : ℕ) (o : Ordered ρ R) where
   pub no-return : (k : ℕ) → Chain (link (building ρ R)) k k → ⊥
   no-return k d = lt-irrefl k (senior-lower k k (chain-senior (link (building ρ R)) (λ _ _ h. h) d))
 
-  other-link : (x y k j : ℕ) → So (other (link (building ρ R)) x y k j) → So (link (building ρ R) k j) × ((k ≡ x) × (j ≡ y) → ⊥)
-  unfolding other
+  other-link : (x y k j : ℕ) → So (linksBut (link (building ρ R)) x y k j) → So (link (building ρ R) k j) × ((k ≡ x) × (j ≡ y) → ⊥)
+  unfolding linksBut
   other-link x y k j h =
       let a = and-iff (link (building ρ R) k j) (isnt (eqb k x and eqb j y)) .0 h in
       (a .0, λ e. isnt-iff (eqb k x and eqb j y) .0 (a .1) (and-iff (eqb k x) (eqb j y) .1 (eqb-iff k x .1 (e .0), eqb-iff j y .1 (e .1))))
 
   -- "no link could be replaced by a chain"
-  pub no-replacement : (x y : ℕ) → So (link (building ρ R) x y) → Chain (other (link (building ρ R)) x y) x y → ⊥
+  pub no-replacement : (x y : ℕ) → So (link (building ρ R) x y) → Chain (linksBut (link (building ρ R)) x y) x y → ⊥
   no-replacement x y l d = go x y refl refl d
     where
-      sub : (k j : ℕ) → So (other (link (building ρ R)) x y k j) → So (link (building ρ R) k j)
+      sub : (k j : ℕ) → So (linksBut (link (building ρ R)) x y k j) → So (link (building ρ R) k j)
       sub k j h = other-link x y k j h .0
 
-      go : (k j : ℕ) → k ≡ x → j ≡ y → Chain (other (link (building ρ R)) x y) k j → ⊥
+      go : (k j : ℕ) → k ≡ x → j ≡ y → Chain (linksBut (link (building ρ R)) x y) k j → ⊥
       go k j ek ej (one h) = other-link x y k j h .1 (ek, ej)
       go k j ek ej (more {i = i} h d) =
           let a : So (senior ρ R x i) = rw ek at (link-senior k i (sub k i h)) in
-          let b : So (senior ρ R i y) = rw ej at (chain-senior (other (link (building ρ R)) x y) sub d) in
+          let b : So (senior ρ R i y) = rw ej at (chain-senior (linksBut (link (building ρ R)) x y) sub d) in
           immediate-iff ρ R x y .0 (link-iff x y .0 l) .1 i (stands-below i (senior-stands x i a .1)) a b
 
   -- any senior and junior are joined by a chain
@@ -134,7 +160,7 @@ module _ (ρ : Roles) (R : ℕ) (o : Ordered ρ R) where
 
   -- ---- authorised
 
-  pub building-below : RowsBelow (candidateCount ρ) (building ρ R)
+  pub building-below : RoleRowsBelow (candidateCount ρ) (building ρ R)
   unfolding building
   building-below =
       record {
@@ -142,37 +168,16 @@ module _ (ρ : Roles) (R : ℕ) (o : Ordered ρ R) where
         holders = λ k u h. stands-below k (member-iff ρ R k u .0 h .1);
       }
 
-  -- the topmost role at or above k that serves u has u as direct member
-  pub topmost : (f k u : ℕ) → candidateCount ρ ≤ f + k → So (has R k) → So (has (authorisedUsers ρ k) u)
+  -- a role at or above k has u as direct member, and one at or below k has p direct
+  pub topmost : (k u : ℕ) → So (has R k) → So (has (authorisedUsers ρ k) u)
       → (i : ℕ) × So (has (directMembers ρ R i) u) × ((i ≡ k) ⊎ So (senior ρ R i k))
-  topmost zero k u l h t = absurd (lt-irrefl k (omega (arith, stands-below k h)))
-  topmost (suc f) k u l h t =
-      ⊎-elim
-      (λ w.
-      let a = and-iff (senior ρ R (w .0) k) (has (authorisedUsers ρ (w .0)) u) .0 (w .2) in
-      let r = topmost f (w .0) u (omega (arith, senior-lower (w .0) k (a .0))) (senior-stands (w .0) k (a .0) .0) (a .1) in
-      (r .0, r .1, _⊎_.inr (⊎-elim (λ (e : r .0 ≡ w .0). rw e (a .0)) (λ s. senior-trans (r .0) (w .0) k s (a .0)) (r .2))))
-      (λ none. (
-        k,
-        member-iff ρ R k u .1
-            (user-iff ρ k u .0 t .0, h, t, λ i li s q. none i li (and-iff (senior ρ R i k) (has (authorisedUsers ρ i) u) .1 (s, q))),
-        _⊎_.inl refl,
-      ))
-      (find (candidateCount ρ) (λ i. senior ρ R i k and has (authorisedUsers ρ i) u))
+  unfolding directMembers
+  topmost k u h t = last-direct (ρ .users) (candidateCount ρ) R (senior ρ R) (authorisedUsers ρ) seniors-side k u (user-iff ρ k u .0 t .0) h t
 
-  -- the lowest role at or below k that holds p has p direct
-  pub bottommost : (f k p : ℕ) → k < f → So (has R k) → p < ρ .permissions → So (has (permissionSet ρ k) p)
-      → (j : ℕ) × So (has (directPermissions ρ R j) p) × ((k ≡ j) ⊎ So (senior ρ R k j))
-  bottommost zero k p l h lp t = absurd (lt-irrefl k (omega arith))
-  bottommost (suc f) k p l h lp t =
-      ⊎-elim
-      (λ w.
-      let a = and-iff (senior ρ R k (w .0)) (has (permissionSet ρ (w .0)) p) .0 (w .2) in
-      let r = bottommost f (w .0) p (omega (arith, senior-lower k (w .0) (a .0))) (senior-stands k (w .0) (a .0) .1) lp (a .1) in
-      (r .0, r .1, _⊎_.inr (⊎-elim (λ (e : w .0 ≡ r .0). rw e at (a .0)) (λ s. senior-trans k (w .0) (r .0) (a .0) s) (r .2))))
-      (λ none.
-      (k, permission-iff ρ R k p .1 (lp, h, t, λ j lj s q. none j lj (and-iff (senior ρ R k j) (has (permissionSet ρ j) p) .1 (s, q))), _⊎_.inl refl))
-      (find (candidateCount ρ) (λ j. senior ρ R k j and has (permissionSet ρ j) p))
+  pub bottommost : (k p : ℕ) → p < ρ .permissions → So (has R k) → So (has (permissionSet ρ k) p)
+      → (j : ℕ) × So (has (directPermissions ρ R j) p) × ((j ≡ k) ⊎ So (senior ρ R k j))
+  unfolding directPermissions
+  bottommost = last-direct (ρ .permissions) (candidateCount ρ) R (λ j k. senior ρ R k j) (permissionSet ρ) juniors-side
 
   -- a direct member of a role is authorised for all that the role holds: "authorised exactly when" some standing role covers the grant
   pub may-covered : (u p : ℕ) → p < ρ .permissions → So (may (candidateCount ρ) (building ρ R) u p) ↔ So (covered ρ R u p)
@@ -189,9 +194,10 @@ module _ (ρ : Roles) (R : ℕ) (o : Ordered ρ R) where
     λ h.
         let w = covered-iff ρ R u p .0 h in
         let cv = covers-iff ρ (w .0) u p .0 (w .3) in
-        let i = topmost (candidateCount ρ) (w .0) u (omega arith) (w .2) (cv .0) in
-        let j = bottommost (suc (w .0)) (w .0) p (omega arith) (w .2) lp (cv .1) in
-        let r : Reaches (link (building ρ R)) (i .0) (j .0) = reaches-by (i .0) (w .0) (j .0) (i .2) (j .2) in
+        let i = topmost (w .0) u (w .2) (cv .0) in
+        let j = bottommost (w .0) p lp (w .2) (cv .1) in
+        let down : (w .0 ≡ j .0) ⊎ So (senior ρ R (w .0) (j .0)) = ⊎-elim (λ e. _⊎_.inl (sym e)) (λ s. _⊎_.inr s) (j .2) in
+        let r : Reaches (link (building ρ R)) (i .0) (j .0) = reaches-by (i .0) (w .0) (j .0) (i .2) down in
         may-iff (candidateCount ρ) (building ρ R) building-below u p .1
         (record { role = i .0; end = j .0; member = i .1; reaches = r; direct = j .1 }),
   )

@@ -176,135 +176,122 @@ add-is r xs y l =
 
 -- ---- intersections of the first n rows
 
--- x is the intersection of the rows of a nonempty set of persons below n
-pub record Meet (rows : List ℕ) (n x : ℕ) : Type 0 where
-  pub persons : ℕ
-  pub within : persons < 2 ^ n
-  pub nonempty : persons ≢ 0
-  pub exactly : (p : ℕ) → So (has x p) ↔ ((u : ℕ) → So (has persons u) → So (has (getD rows u 0) p))
-
-meet-intersection : {rows : List ℕ} {x : ℕ} → Meet rows (length rows) x → Intersection rows x
-meet-intersection m = record { persons = m .persons; within = m .within; nonempty = m .nonempty; exactly = m .exactly }
-
-intersection-meet : {rows : List ℕ} {x : ℕ} → Intersection rows x → Meet rows (length rows) x
-intersection-meet m = record { persons = m .persons; within = m .within; nonempty = m .nonempty; exactly = m .exactly }
-
 -- each of the first n rows is one of the first n' others
 abbrev pub RowsAmong : List ℕ → ℕ → List ℕ → ℕ → Type 0
 RowsAmong rows n rows' n' = (u : ℕ) → u < n → (v : ℕ) × (v < n') × (getD rows' v 0 ≡ getD rows u 0)
 
--- the persons given by a test
+-- the users that a test gives
 meet-of : (rows : List ℕ) (n x : ℕ) (f : ℕ → Bool) (u : ℕ) → u < n → So (f u)
     → ((p : ℕ) → So (has x p) → (v : ℕ) → v < n → So (f v) → So (has (getD rows v 0) p))
-    → ((p : ℕ) → ((v : ℕ) → v < n → So (f v) → So (has (getD rows v 0) p)) → So (has x p)) → Meet rows n x
+    → ((p : ℕ) → ((v : ℕ) → v < n → So (f v) → So (has (getD rows v 0) p)) → So (has x p)) → Intersection rows n x
 meet-of rows n x f u h s to back =
     record {
-      persons = collect n f;
+      users = collect n f;
       within = collect-lt n f;
       nonempty = λ e. So-not (has-zero u) (rw e at (collect-iff n f u .1 (h, s)));
       exactly = λ p. (λ t v k. let c = collect-iff n f v .0 k in to p t v (c .0) (c .1), λ k. back p (λ v l t. k v (collect-iff n f v .1 (l, t))));
     }
 
-person-below : {rows : List ℕ} {n x : ℕ} (m : Meet rows n x) (u : ℕ) → So (has (m .persons) u) → u < n
-person-below {n = n} m u t = item-below n (m .persons) u (m .within) t
+user-below : {rows : List ℕ} {n x : ℕ} (m : Intersection rows n x) (u : ℕ) → So (has (m .users) u) → u < n
+user-below {n = n} m u t = item-below n (m .users) u (m .within) t
 
-someone : {rows : List ℕ} {n x : ℕ} (m : Meet rows n x) → (u : ℕ) × So (has (m .persons) u)
-someone m = item-of (m .persons) (m .nonempty)
+someone : {rows : List ℕ} {n x : ℕ} (m : Intersection rows n x) → (u : ℕ) × So (has (m .users) u)
+someone m = item-of (m .users) (m .nonempty)
 
 -- a set without its top item is smaller
 shrink : (n s : ℕ) → s < 2 ^ suc n → has s n ≡ false → s < 2 ^ n
 shrink n s h t = below-of-items n s (λ i l. equal-or i n (λ (e : i ≡ n). rw e t) (λ d. has-above (suc n) s i h (omega arith)))
 
-pub meet-row : (rows : List ℕ) (n u : ℕ) → u < n → Meet rows n (getD rows u 0)
+pub meet-row : (rows : List ℕ) (n u : ℕ) → u < n → Intersection rows n (getD rows u 0)
 meet-row rows n u h =
     meet-of rows n (getD rows u 0) (eqb u) u h (eq-eqb u u refl)
     (λ p t v l e. let q : u ≡ v = eqb-true u v e in rw q at t) (λ p k. k u h (eq-eqb u u refl))
 
-pub meet-∩ : {rows : List ℕ} {n x y : ℕ} → Meet rows n x → Meet rows n y → Meet rows n (x ∩ y)
+pub meet-∩ : {rows : List ℕ} {n x y : ℕ} → Intersection rows n x → Intersection rows n y → Intersection rows n (x ∩ y)
 meet-∩ {rows} {n} {x} {y} a b =
     let w = someone a in
-    let both : ℕ → Bool = λ u. has (a .persons) u or has (b .persons) u in
-    let one : (u : ℕ) → So (both u) ↔ (So (has (a .persons) u) ⊎ So (has (b .persons) u)) = λ u. or-iff (has (a .persons) u) (has (b .persons) u) in
-    meet-of rows n (x ∩ y) both (w .0) (person-below a (w .0) (w .1)) (one (w .0) .1 (_⊎_.inl (w .1)))
+    let both : ℕ → Bool = λ u. has (a .users) u or has (b .users) u in
+    let one : (u : ℕ) → So (both u) ↔ (So (has (a .users) u) ⊎ So (has (b .users) u)) = λ u. or-iff (has (a .users) u) (has (b .users) u) in
+    meet-of rows n (x ∩ y) both (w .0) (user-below a (w .0) (w .1)) (one (w .0) .1 (_⊎_.inl (w .1)))
     (λ p t v l s. let k = ∩-iff x y p .0 t in ⊎-elim (a .exactly p .0 (k .0) v) (b .exactly p .0 (k .1) v) (one v .0 s))
     (λ p k.
     ∩-iff x y p .1 (
-      a .exactly p .1 (λ v s. k v (person-below a v s) (one v .1 (_⊎_.inl s))),
-      b .exactly p .1 (λ v s. k v (person-below b v s) (one v .1 (_⊎_.inr s))),
+      a .exactly p .1 (λ v s. k v (user-below a v s) (one v .1 (_⊎_.inl s))),
+      b .exactly p .1 (λ v s. k v (user-below b v s) (one v .1 (_⊎_.inr s))),
     ))
 
 -- an intersection of rows is one of any rows that these are among
-pub meet-more : {rows rows' : List ℕ} {n n' x : ℕ} → RowsAmong rows n rows' n' → Meet rows n x → Meet rows' n' x
+pub meet-more : {rows rows' : List ℕ} {n n' x : ℕ} → RowsAmong rows n rows' n' → Intersection rows n x → Intersection rows' n' x
 meet-more {rows} {rows'} {n} {n'} {x} f m =
     let w = someone m in
-    let o = f (w .0) (person-below m (w .0) (w .1)) in
-    let same : ℕ → Bool = λ v. any n (λ u. has (m .persons) u and eqb (getD rows u 0) (getD rows' v 0)) in
-    let make : (u v : ℕ) → So (has (m .persons) u) → getD rows' v 0 ≡ getD rows u 0 → So (same v) =
-    λ u v t e. simp reflect (u, person-below m u t, (t, sym e)) in
+    let o = f (w .0) (user-below m (w .0) (w .1)) in
+    let same : ℕ → Bool = λ v. any n (λ u. has (m .users) u and eqb (getD rows u 0) (getD rows' v 0)) in
+    let make : (u v : ℕ) → So (has (m .users) u) → getD rows' v 0 ≡ getD rows u 0 → So (same v) =
+    λ u v t e. simp reflect (u, user-below m u t, (t, sym e)) in
     meet-of rows' n' x same (o .0) (o .1) (make (w .0) (o .0) (w .1) (o .2))
     (λ p t v l s.
-    let k : (u : ℕ) × (u < n) × (So (has (m .persons) u) × (getD rows u 0 ≡ getD rows' v 0)) = simp reflect at s in
+    let k : (u : ℕ) × (u < n) × (So (has (m .users) u) × (getD rows u 0 ≡ getD rows' v 0)) = simp reflect at s in
     rw (k .2 .1) at (m .exactly p .0 t (k .0) (k .2 .0)))
-    (λ p k. m .exactly p .1 (λ u t. let q = f u (person-below m u t) in rw (q .2) at (k (q .0) (q .1) (make u (q .0) t (q .2)))))
+    (λ p k. m .exactly p .1 (λ u t. let q = f u (user-below m u t) in rw (q .2) at (k (q .0) (q .1) (make u (q .0) t (q .2)))))
 
 -- and lies within a row
-pub meet-within : {rows : List ℕ} {n x : ℕ} → Meet rows n x → (u : ℕ) × (u < n) × So (subset x (getD rows u 0))
+pub meet-within : {rows : List ℕ} {n x : ℕ} → Intersection rows n x → (u : ℕ) × (u < n) × So (subset x (getD rows u 0))
 meet-within {rows} {n} {x} m =
     let w = someone m in
-    (w .0, person-below m (w .0) (w .1), subset-iff x (getD rows (w .0) 0) .1 (λ p t. m .exactly p .0 t (w .0) (w .1)))
+    (w .0, user-below m (w .0) (w .1), subset-iff x (getD rows (w .0) 0) .1 (λ p t. m .exactly p .0 t (w .0) (w .1)))
 
--- any nonempty set of persons has its intersection
-meet-made : (rows : List ℕ) (n persons : ℕ) → persons < 2 ^ n → persons ≢ 0
-    → (x : ℕ) × ((p : ℕ) → So (has x p) ↔ ((u : ℕ) → So (has persons u) → So (has (getD rows u 0) p)))
-meet-made rows n persons h d =
-    let w = item-of persons d in
+-- any nonempty set of users has its intersection
+meet-made : (rows : List ℕ) (n users : ℕ) → users < 2 ^ n → users ≢ 0
+    → (x : ℕ) × ((p : ℕ) → So (has x p) ↔ ((u : ℕ) → So (has users u) → So (has (getD rows u 0) p)))
+meet-made rows n users h d =
+    let w = item-of users d in
     let b = getD rows (w .0) 0 in
-    let common : ℕ → Bool = λ p. all n (λ u. has persons u implies has (getD rows u 0) p) in
-    let to : (p : ℕ) → So (has (collect b common) p) → (u : ℕ) → So (has persons u) → So (has (getD rows u 0) p) =
+    let common : ℕ → Bool = λ p. all n (λ u. has users u implies has (getD rows u 0) p) in
+    let to : (p : ℕ) → So (has (collect b common) p) → (u : ℕ) → So (has users u) → So (has (getD rows u 0) p) =
     λ p t u k.
-    let f : (v : ℕ) → v < n → So (has persons v) → So (has (getD rows v 0) p) = simp reflect at (collect-iff b common p .0 t .1) in
-    f u (item-below n persons u h k) k in
-    let back : (p : ℕ) → ((u : ℕ) → So (has persons u) → So (has (getD rows u 0) p)) → So (has (collect b common) p) =
+    let f : (v : ℕ) → v < n → So (has users v) → So (has (getD rows v 0) p) = simp reflect at (collect-iff b common p .0 t .1) in
+    f u (item-below n users u h k) k in
+    let back : (p : ℕ) → ((u : ℕ) → So (has users u) → So (has (getD rows u 0) p)) → So (has (collect b common) p) =
     λ p k. collect-iff b common p .1 (item-below b b p (below-power b) (k (w .0) (w .1)), simp reflect (λ u l. k u)) in
     (collect b common, λ p. (to p, back p))
 
--- the persons of an intersection that has the last of suc n rows, but that one
-module _ {rows : List ℕ} {n x : ℕ} (m : Meet rows (suc n) x) (last : So (has (m .persons) n)) where
+-- the users of an intersection that has the last of suc n rows, but that one
+module _ {rows : List ℕ} {n x : ℕ} (m : Intersection rows (suc n) x) (last : So (has (m .users) n)) where
   abbrev others : ℕ
-  others = m .persons ∖ single n
+  others = m .users ∖ single n
 
   others-lt : others < 2 ^ n
   others-lt =
-      shrink n others (∖-lt (suc n) (m .persons) (single n) (m .within))
-      (not-So (has others n) (λ q. ∖-iff (m .persons) (single n) n .0 q .1 (single-iff n n .1 refl)))
+      shrink n others (∖-lt (suc n) (m .users) (single n) (m .within))
+      (not-So (has others n) (λ q. ∖-iff (m .users) (single n) n .0 q .1 (single-iff n n .1 refl)))
 
   from-both : (p : ℕ) → So (has (getD rows n 0) p) → ((u : ℕ) → So (has others u) → So (has (getD rows u 0) p)) → So (has x p)
   from-both p s f =
       m .exactly p .1
-      (λ u k. equal-or u n (λ (e : u ≡ n). rw e s) (λ d. f u (∖-iff (m .persons) (single n) u .1 (k, λ q. d (sym (single-iff n u .0 q))))))
+      (λ u k. equal-or u n (λ (e : u ≡ n). rw e s) (λ d. f u (∖-iff (m .users) (single n) u .1 (k, λ q. d (sym (single-iff n u .0 q))))))
 
   alone : others ≡ 0 → x ≡ getD rows n 0
   alone e =
       same-set x (getD rows n 0) (λ p s. m .exactly p .0 s n last)
       (λ p s. from-both p s (λ u q. absurd (So-not (has-zero u) (rw e at q))))
 
-  joined : others ≢ 0 → (y : ℕ) × Meet rows n y × (x ≡ getD rows n 0 ∩ y)
+  joined : others ≢ 0 → (y : ℕ) × Intersection rows n y × (x ≡ getD rows n 0 ∩ y)
   joined d =
       let r = getD rows n 0 in
       let y = meet-made rows n others others-lt d in
       let e : x ≡ r ∩ y .0 =
       same-set x (r ∩ y .0)
-      (λ p s. ∩-iff r (y .0) p .1 (m .exactly p .0 s n last, y .1 p .1 (λ u k. m .exactly p .0 s u (∖-iff (m .persons) (single n) u .0 k .0))))
+      (λ p s. ∩-iff r (y .0) p .1 (m .exactly p .0 s n last, y .1 p .1 (λ u k. m .exactly p .0 s u (∖-iff (m .users) (single n) u .0 k .0))))
       (λ p s. let k = ∩-iff r (y .0) p .0 s in from-both p (k .0) (y .1 p .0 (k .1))) in
-      (y .0, record { persons = others; within = others-lt; nonempty = d; exactly = y .1 }, e)
+      (y .0, record { users = others; within = others-lt; nonempty = d; exactly = y .1 }, e)
 
 -- an intersection of suc n rows is one of n rows, or row n, or the intersection of row n with one of n rows
-meet-last : {rows : List ℕ} {n x : ℕ} → Meet rows (suc n) x
-    → Meet rows n x ⊎ ((x ≡ getD rows n 0) ⊎ ((y : ℕ) × Meet rows n y × (x ≡ getD rows n 0 ∩ y)))
+meet-last : {rows : List ℕ} {n x : ℕ} → Intersection rows (suc n) x
+    → Intersection rows n x ⊎ ((x ≡ getD rows n 0) ⊎ ((y : ℕ) × Intersection rows n y × (x ≡ getD rows n 0 ∩ y)))
 meet-last {rows} {n} {x} m =
-    by-test (has (m .persons) n)
+    by-test (has (m .users) n)
     (λ t. _⊎_.inr (equal-or (others m t) 0 (λ e. _⊎_.inl (alone m t e)) (λ d. _⊎_.inr (joined m t d))))
-    (λ t. _⊎_.inl (record { persons = m .persons; within = shrink n (m .persons) (m .within) t; nonempty = m .nonempty; exactly = m .exactly }))
+    (λ t. _⊎_.inl (record { users = m .users; within = shrink n (m .users) (m .within) t; nonempty = m .nonempty; exactly = m .exactly }))
 
 -- ---- the candidates of the first n rows
 
@@ -320,7 +307,7 @@ mined-growing rows (suc n) = add-growing (getD rows n 0) (minedTo rows n) (mined
 next-row : (rows : List ℕ) (n : ℕ) → RowsAmong rows n rows (suc n)
 next-row rows n u h = (u, le-step h, refl)
 
-mined-is : (rows : List ℕ) (n x : ℕ) → Listed (minedTo rows n) x → (x ≢ 0) × Meet rows n x
+mined-is : (rows : List ℕ) (n x : ℕ) → Listed (minedTo rows n) x → (x ≢ 0) × Intersection rows n x
 unfolding minedTo
 mined-is rows zero x l = absurd (listed-none l)
 mined-is rows (suc n) x l =
@@ -330,7 +317,7 @@ mined-is rows (suc n) x l =
     (λ m. (m .nonempty, rw (m .meet) (meet-∩ own (meet-more (next-row rows n) (mined-is rows n (m .other) (m .listed) .1))))))
     (add-is (getD rows n 0) (minedTo rows n) x l)
 
-mined-of : (rows : List ℕ) (n x : ℕ) → x ≢ 0 → Meet rows n x → Listed (minedTo rows n) x
+mined-of : (rows : List ℕ) (n x : ℕ) → x ≢ 0 → Intersection rows n x → Listed (minedTo rows n) x
 unfolding minedTo
 mined-of rows zero x d m = absurd (m .nonempty (let h = m .within in omega arith))
 mined-of rows (suc n) x d m =
@@ -343,7 +330,7 @@ mined-of rows (suc n) x d m =
     add-meet r xs x (record { other = w .0; listed = k; meet = w .2; nonempty = d })))
     (meet-last m)
 
-pub mined-iff : (rows : List ℕ) (n x : ℕ) → Listed (minedTo rows n) x ↔ ((x ≢ 0) × Meet rows n x)
+pub mined-iff : (rows : List ℕ) (n x : ℕ) → Listed (minedTo rows n) x ↔ ((x ≢ 0) × Intersection rows n x)
 mined-iff rows n x = (mined-is rows n x, λ k. mined-of rows n x (k .0) (k .1))
 
 -- each nonempty row is a candidate
@@ -476,12 +463,10 @@ module _ (rows : List ℕ) where
   pub candidates-growing : Growing (candidates rows)
   candidates-growing = candidates-table .grows
 
-  -- exactly the nonempty intersections of one or more persons' rows
-  pub candidate-iff : (x : ℕ) → Listed (candidates rows) x ↔ ((x ≢ 0) × Intersection rows x)
+  -- exactly the nonempty intersections of one or more users' rows
+  pub candidate-iff : (x : ℕ) → Listed (candidates rows) x ↔ ((x ≢ 0) × Intersection rows (length rows) x)
   unfolding candidates
-  candidate-iff x =
-      let k = mined-iff rows (length rows) x in
-      (λ l. (k .0 l .0, meet-intersection (k .0 l .1)), λ i. k .1 (i .0, intersection-meet (i .1)))
+  candidate-iff = mined-iff rows (length rows)
 
   pub row-candidate : (u : ℕ) → u < length rows → getD rows u 0 ≢ 0 → Listed (candidates rows) (getD rows u 0)
   unfolding candidates
@@ -510,7 +495,7 @@ module _ (rows : List ℕ) where
   proper-lower j k hj hk h =
       growing-later candidates-growing j k hj hk (proper-< (getD (candidates rows) j 0) (getD (candidates rows) k 0) h)
 
-  -- the roles within a person's row are the role that is that row and its proper subsets
+  -- the roles within a user's row are the role that is that row and its proper subsets
   pub own-role : (u e k : ℕ) → e < length (candidates rows) → getD (candidates rows) e 0 ≡ getD rows u 0 → k < length (candidates rows)
       → subset (getD (candidates rows) k 0) (getD rows u 0) ≡ (eqb k e or properSubset (getD (candidates rows) k 0) (getD (candidates rows) e 0))
   own-role u e k he q hk = rw (← q) (subset-at candidates-growing k e hk he)

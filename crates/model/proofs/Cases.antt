@@ -5,10 +5,10 @@ use mathlib.Core.List.{List, [], _∷_}
 use Prim.Native.Nat.{ℕ}
 use Rattle.model.specs.Candidates.{candidates}
 use Rattle.model.specs.Hierarchy.{Roles, immediateJuniors, directPermissions, directMembers}
-use Rattle.model.specs.Quality.{Weights, quality}
+use Rattle.model.specs.Quality.{Weights, quality, Tolerance}
 use Rattle.model.specs.Lists.{tabulate}
 use Rattle.model.specs.State.{State, rolesOf, fresh}
-use Rattle.model.specs.Machine.{Tolerance, answer, stateAfter, answersTo}
+use Rattle.model.specs.Machine.{reply, stateAfter, repliesTo}
 use Rattle.model.specs.Machine.Call.{strike, restore, eliminate, review}
 use Rattle.model.proofs.Everything.{everything}
 
@@ -33,13 +33,13 @@ pub record Starred : Type 0 where
   pub juniors : tabulate 4 (immediateJuniors ρ (start .standing)) ≡ 0 ∷ 1 ∷ 1 ∷ 6 ∷ []
   pub permissions : tabulate 4 (directPermissions ρ (start .standing)) ≡ 2 ∷ 1 ∷ 4 ∷ 0 ∷ []
   pub members : tabulate 4 (directMembers ρ (start .standing)) ≡ 0 ∷ 1 ∷ 2 ∷ 4 ∷ []
-  pub strike-0 : answersTo start (strike 0 ∷ []) ≡ answer 0 0 0 ∷ []
+  pub strike-0 : repliesTo start (strike 0 ∷ []) ≡ reply 0 0 0 ∷ []
   pub quality-0 : quality ρ ones4 (stateAfter start (strike 0 ∷ []) .standing) ≡ 12
   pub permissions-0 : tabulate 4 (directPermissions ρ (stateAfter start (strike 0 ∷ []) .standing)) ≡ 0 ∷ 3 ∷ 6 ∷ 0 ∷ []
   pub standing-0-3 : stateAfter start (strike 0 ∷ strike 3 ∷ []) .standing ≡ 6
   pub quality-0-3 : quality ρ ones4 (stateAfter start (strike 0 ∷ strike 3 ∷ []) .standing) ≡ 10
-  pub refusals : answersTo start (strike 1 ∷ restore 0 ∷ strike 4 ∷ []) ≡ answer 8 0 0 ∷ answer 7 0 0 ∷ answer 6 0 0 ∷ []
-  pub eliminates-and-reviews : answersTo start (eliminate ones4 even ∷ review ones4 ∷ []) ≡ answer 0 2 2 ∷ answer 0 0 2 ∷ []
+  pub refusals : repliesTo start (strike 1 ∷ restore 0 ∷ strike 4 ∷ []) ≡ reply 8 0 0 ∷ reply 7 0 0 ∷ reply 6 0 0 ∷ []
+  pub eliminates-and-reviews : repliesTo start (eliminate ones4 even ∷ review ones4 ∷ []) ≡ reply 0 2 2 ∷ reply 0 0 2 ∷ []
 
 pub starred : Starred
 unfolding everything

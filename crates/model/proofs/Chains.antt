@@ -13,7 +13,7 @@ use Rattle.sets.proofs.Truth.{and-iff, any-iff, equal-or}
 use Rattle.sets.proofs.Items.{item-below}
 use Rattle.sets.proofs.Order.{∪-iff, ∪-lt, collect-iff, collect-lt, subset-iff, proper-iff}
 use Rattle.sets.proofs.Counts.{ones-proper}
-use Rattle.model.specs.Hierarchy.{Rows}
+use Rattle.model.specs.Hierarchy.{RoleRows}
 use Rattle.model.specs.Chains.{link, Chain, Reaches, onward, follow, reached, directRoles, rolesReached, may, Authorised}
 use Rattle.model.specs.Chains.Chain.{one, more}
 
@@ -115,24 +115,24 @@ module _ (joined : ℕ → ℕ → Bool) where
           )
 
 -- rows of c roles: links lead to these, and only these have members
-pub record RowsBelow (c : ℕ) (b : Rows) : Type 0 where
+pub record RoleRowsBelow (c : ℕ) (b : RoleRows) : Type 0 where
   pub ends : (k j : ℕ) → So (link b k j) → j < c
   pub holders : (k u : ℕ) → So (has (b .members k) u) → k < c
 
-pub directRoles-iff : (c : ℕ) (b : Rows) (u k : ℕ) → So (has (directRoles c b u) k) ↔ ((k < c) × So (has (b .members k) u))
+pub directRoles-iff : (c : ℕ) (b : RoleRows) (u k : ℕ) → So (has (directRoles c b u) k) ↔ ((k < c) × So (has (b .members k) u))
 unfolding directRoles
 directRoles-iff c b u k = collect-iff c (λ k. has (b .members k) u) k
 
-pub directRoles-lt : (c : ℕ) (b : Rows) (u : ℕ) → directRoles c b u < 2 ^ c
+pub directRoles-lt : (c : ℕ) (b : RoleRows) (u : ℕ) → directRoles c b u < 2 ^ c
 unfolding directRoles
 directRoles-lt c b u = collect-lt c (λ k. has (b .members k) u)
 
-pub reached-lt : (c : ℕ) (b : Rows) → RowsBelow c b → (s : ℕ) → s < 2 ^ c → reached (link b) c s < 2 ^ c
+pub reached-lt : (c : ℕ) (b : RoleRows) → RoleRowsBelow c b → (s : ℕ) → s < 2 ^ c → reached (link b) c s < 2 ^ c
 unfolding reached
 reached-lt c b below s h = follow-lt (link b) c (below .ends) s h c
 
 -- may as it is computed is what the paper says of it
-pub may-iff : (c : ℕ) (b : Rows) → RowsBelow c b → (u p : ℕ) → So (may c b u p) ↔ Authorised b u p
+pub may-iff : (c : ℕ) (b : RoleRows) → RoleRowsBelow c b → (u p : ℕ) → So (may c b u p) ↔ Authorised b u p
 unfolding may rolesReached
 may-iff c b below u p =
     let s = directRoles c b u in

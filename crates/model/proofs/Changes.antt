@@ -1,62 +1,27 @@
--- Striking a role, and restoring it: what stays covered, and which rows differ. R is the standing set with the role k in it: before a strike,
--- after a restoration.
+-- Roles struck, and restored: which rows differ. R is the standing set with the roles of the set s, or the role k, in it: before a strike, after a
+-- restoration.
 -- Assumes nothing.
 use mathlib.Core.Path.{_≡_, refl, sym}
 use mathlib.Core.Bool.{So}
 use mathlib.Core.Logic.{_↔_, _≢_, _⊎_, ⊎-elim}
 use Prim.Native.Nat.{ℕ, _<_}
-use native.Mathlib.Nat.{lt-irrefl}
-use native.Mathlib.Omega.{arith}
 use Rattle.sets.specs.Truth.{_and_}
-use Rattle.sets.specs.Sets.{has, _∪_, _∖_, single, subset}
-use Rattle.sets.proofs.Truth.{by-test, So-not, and-iff, equal-or, find}
-use Rattle.sets.proofs.Items.{same-set, has-zero}
-use Rattle.sets.proofs.Order.{subset-iff, ∖-iff, ∪-iff, ∖-lt, ∪-lt, single-iff, single-lt}
+use Rattle.sets.specs.Sets.{has, _∪_, _∖_, single}
+use Rattle.sets.proofs.Truth.{by-test, So-not, and-iff, find}
+use Rattle.sets.proofs.Items.{same-set}
+use Rattle.sets.proofs.Order.{∖-iff, ∖-lt, ∪-lt, single-iff, single-lt}
 use Rattle.model.specs.Hierarchy.{Roles, candidateCount, permissionSet, authorisedUsers, senior, immediatelySenior, immediateJuniors, directPermissions, directMembers}
-use Rattle.model.specs.Coverage.{grant, covered, allCovered, strikable}
-use Rattle.model.proofs.Reading.{Ordered, covers-iff, covered-iff, allCovered-iff, strikable-iff, senior-iff, immediate-iff, junior-iff, permission-iff, member-iff}
-use Rattle.model.proofs.Building.{stands-below, senior-trans, senior-lower, senior-stands, senior-permission, senior-user, senior-differs}
-
--- ---- coverage
-
--- more standing roles cover more
-pub covered-more : (ρ : Roles) (s t u p : ℕ) → So (subset s t) → So (covered ρ s u p) → So (covered ρ t u p)
-covered-more ρ s t u p h c = let w = covered-iff ρ s u p .0 c in covered-iff ρ t u p .1 (w .0, w .1, subset-iff s t .0 h (w .0) (w .2), w .3)
-
--- a role that is strikable among fewer standing roles is strikable among more: none becomes strikable again by strikes
-pub strikable-more : (ρ : Roles) (s t k : ℕ) → k < candidateCount ρ → So (subset s t) → So (strikable ρ s k) → So (strikable ρ t k)
-strikable-more ρ s t k lk h x =
-    let a = strikable-iff ρ s k lk .0 x in
-    strikable-iff ρ t k lk .1
-    (subset-iff s t .0 h k (a .0), λ u p lu lp g cv. let w = a .1 u p lu lp g cv in (w .0, w .1, subset-iff s t .0 h (w .0) (w .2), w .3, w .4))
-
--- "what is covered stays covered"
-pub struck-covered : (ρ : Roles) (R k : ℕ) → k < candidateCount ρ → So (strikable ρ R k) → So (allCovered ρ R) → So (allCovered ρ (R ∖ single k))
-struck-covered ρ R k lk x all =
-    allCovered-iff ρ (R ∖ single k) .1
-    (λ u p lu lp g.
-    let w = covered-iff ρ R u p .0 (allCovered-iff ρ R .0 all u p lu lp g) in
-    equal-or (w .0) k
-    (λ (e : w .0 ≡ k).
-    let v = strikable-iff ρ R k lk .0 x .1 u p lu lp g (rw e at (w .3)) in
-    covered-iff ρ (R ∖ single k) u p .1 (v .0, v .1, ∖-iff R (single k) (v .0) .1 (v .2, λ s. v .3 (sym (single-iff k (v .0) .0 s))), v .4))
-    (λ d. covered-iff ρ (R ∖ single k) u p .1 (w .0, w .1, ∖-iff R (single k) (w .0) .1 (w .2, λ s. d (sym (single-iff k (w .0) .0 s))), w .3)))
-
-pub restored-covered : (ρ : Roles) (R k : ℕ) → So (allCovered ρ R) → So (allCovered ρ (R ∪ single k))
-restored-covered ρ R k all =
-    allCovered-iff ρ (R ∪ single k) .1
-    (λ u p lu lp g.
-    covered-more ρ R (R ∪ single k) u p (subset-iff R (R ∪ single k) .1 (λ i t. ∪-iff R (single k) i .1 (_⊎_.inl t))) (allCovered-iff ρ R .0 all u p lu lp g))
+use Rattle.model.proofs.Direct.{Next, next-taker, direct-same, direct-kept}
+use Rattle.model.proofs.Reading.{Ordered, senior-iff, immediate-iff, junior-iff}
+use Rattle.model.proofs.Building.{stands-below, senior-trans, senior-stands, juniors-side, seniors-side}
 
 -- the standing roles stay candidates
-pub struck-ordered : (ρ : Roles) (R k : ℕ) → Ordered ρ R → Ordered ρ (R ∖ single k)
-struck-ordered ρ R k o = record { lower = o .lower; below = ∖-lt (candidateCount ρ) R (single k) (o .below) }
+pub struck-ordered : (ρ : Roles) (R s : ℕ) → Ordered ρ R → Ordered ρ (R ∖ s)
+struck-ordered ρ R s o = record { lower = o .lower; below = ∖-lt (candidateCount ρ) R s (o .below) }
 
 pub restored-ordered : (ρ : Roles) (R k : ℕ) → k < candidateCount ρ → Ordered ρ R → Ordered ρ (R ∪ single k)
 restored-ordered ρ R k lk o =
     record { lower = o .lower; below = ∪-lt (candidateCount ρ) R (single k) (o .below) (single-lt (candidateCount ρ) k lk) }
-
--- ---- rows
 
 module _ (ρ : Roles) (R : ℕ) (o : Ordered ρ R) where
   -- a senior that is not immediate has a role between
@@ -66,205 +31,135 @@ module _ (ρ : Roles) (R : ℕ) (o : Ordered ρ R) where
       (λ f. absurd (d (immediate-iff ρ R i k .1 (s, λ t l p q. f t l (and-iff (senior ρ R i t) (senior ρ R t k) .1 (p, q))))))
       (find (candidateCount ρ) (λ t. senior ρ R i t and senior ρ R t k))
 
-  -- a grant of k that is not of a direct member and a direct permission is covered by a senior or a junior: only direct members' direct
-  -- permissions can be left bare
-  pub strikable-direct : (k : ℕ) → k < candidateCount ρ
-      → So (strikable ρ R k)
-      ↔ (So (has R k)
-      × ((u p : ℕ) → So (has (directMembers ρ R k) u) → So (has (directPermissions ρ R k) p) → So (grant ρ u p) → So (covered ρ (R ∖ single k) u p)))
-  strikable-direct k lk = (
-    λ x.
-        let a = strikable-iff ρ R k lk .0 x in (
-          a .0,
-          λ u p mu mp g.
-              let bu = member-iff ρ R k u .0 mu in
-              let bp = permission-iff ρ R k p .0 mp in
-              let w = a .1 u p (bu .0) (bp .0) g (covers-iff ρ k u p .1 (bu .2, bp .2)) in
-              covered-iff ρ (R ∖ single k) u p .1 (w .0, w .1, other (w .0) (w .2) (w .3), w .4),
-        ),
-    λ f.
-        strikable-iff ρ R k lk .1 (
-          f .0,
-          λ u p lu lp g cv.
-              let c = covers-iff ρ k u p .0 cv in
-              ⊎-elim
-              (λ w.
-              let a = and-iff (senior ρ R (w .0) k) (has (authorisedUsers ρ (w .0)) u) .0 (w .2) in (
-                w .0,
-                w .1,
-                senior-stands ρ R o (w .0) k (a .0) .0,
-                distinct (w .0) k (senior-lower ρ R o (w .0) k (a .0)),
-                covers-iff ρ (w .0) u p .1
-                    (a .1, senior-permission ρ R o (w .0) k p (a .0) (c .1)),
-              ))
-              (λ noSenior.
-              ⊎-elim
-              (λ w.
-              let a = and-iff (senior ρ R k (w .0)) (has (permissionSet ρ (w .0)) p) .0 (w .2) in (
-                w .0,
-                w .1,
-                senior-stands ρ R o k (w .0) (a .0) .1,
-                λ e. distinct k (w .0) (senior-lower ρ R o k (w .0) (a .0)) (sym e),
-                covers-iff ρ (w .0) u p .1
-                    (senior-user ρ R o k (w .0) u (a .0) (c .0), a .1),
-              ))
-              (λ noJunior.
-              let w =
-              covered-iff ρ (R ∖ single k) u p .0
-              (f .1 u p
-              (member-iff ρ R k u .1 (lu, f .0, c .0, λ i l s t. noSenior i l (and-iff (senior ρ R i k) (has (authorisedUsers ρ i) u) .1 (s, t))))
-              (permission-iff ρ R k p .1 (lp, f .0, c .1, λ j l s t. noJunior j l (and-iff (senior ρ R k j) (has (permissionSet ρ j) p) .1 (s, t)))) g) in
-              let d = ∖-iff R (single k) (w .0) .0 (w .2) in
-              (w .0, w .1, d .0, λ e. d .1 (single-iff k (w .0) .1 (sym e)), w .3))
-              (find (candidateCount ρ) (λ j. senior ρ R k j and has (permissionSet ρ j) p)))
-              (find (candidateCount ρ) (λ i. senior ρ R i k and has (authorisedUsers ρ i) u)),
-        ),
-  )
-    where
-      other : (j : ℕ) → So (has R j) → j ≢ k → So (has (R ∖ single k) j)
-      other j h d = ∖-iff R (single k) j .1 (h, λ s. d (sym (single-iff k j .0 s)))
+  -- next on the side of the juniors, and of the seniors, is immediate
+  next-junior : (j k : ℕ) → Next (candidateCount ρ) (λ j k. senior ρ R k j) j k → So (immediatelySenior ρ R k j)
+  next-junior j k h = immediate-iff ρ R k j .1 (h .0, λ i l p q. h .1 i l q p)
 
-      distinct : (a b : ℕ) → b < a → a ≢ b
-      distinct a b l e = lt-irrefl a (omega arith)
+  next-senior : (i k : ℕ) → Next (candidateCount ρ) (senior ρ R) i k → So (immediatelySenior ρ R i k)
+  next-senior i k h = immediate-iff ρ R i k .1 h
 
-  module _ (k : ℕ) where
-    pub stands-other : (i : ℕ) → So (has (R ∖ single k) i) ↔ (So (has R i) × (i ≢ k))
-    stands-other i = (
-      λ h. let d = ∖-iff R (single k) i .0 h in (d .0, λ e. d .1 (single-iff k i .1 (sym e))),
-      λ f. ∖-iff R (single k) i .1 (f .0, λ s. f .1 (sym (single-iff k i .0 s))),
-    )
+  -- on the way from a senior k to j, an immediate junior of k, and an immediate senior of j
+  pub immediate-below : (k j : ℕ) → So (senior ρ R k j) → (t : ℕ) × So (immediatelySenior ρ R k t) × ((j ≡ t) ⊎ So (senior ρ R t j))
+  immediate-below k j h =
+      let w = next-taker (ρ .permissions) (candidateCount ρ) R (λ j k. senior ρ R k j) (permissionSet ρ) (juniors-side ρ R o) j k h in
+      (w .0, next-junior (w .0) k (w .1), w .2)
 
-    -- among the others, senior is as it was
-    pub senior-other : (i j : ℕ) → So (senior ρ (R ∖ single k) i j) ↔ (So (senior ρ R i j) × (i ≢ k) × (j ≢ k))
-    senior-other i j = (
+  pub immediate-above : (k j : ℕ) → So (senior ρ R k j) → (t : ℕ) × So (immediatelySenior ρ R t j) × ((k ≡ t) ⊎ So (senior ρ R k t))
+  immediate-above k j h =
+      let w = next-taker (ρ .users) (candidateCount ρ) R (senior ρ R) (authorisedUsers ρ) (seniors-side ρ R o) k j h in
+      (w .0, next-senior (w .0) j (w .1), w .2)
+
+  -- ---- a set s of roles
+
+  module _ (s : ℕ) where
+    -- among those that are left, senior is as it was
+    pub senior-left : (i j : ℕ) → So (senior ρ (R ∖ s) i j) ↔ (So (senior ρ R i j) × (So (has s i) → ⊥) × (So (has s j) → ⊥))
+    senior-left i j = (
       λ h.
-          let a = senior-iff ρ (R ∖ single k) i j .0 h in
-          let x = stands-other i .0 (a .0) in
-          let y = stands-other j .0 (a .1) in
+          let a = senior-iff ρ (R ∖ s) i j .0 h in
+          let x = ∖-iff R s i .0 (a .0) in
+          let y = ∖-iff R s j .0 (a .1) in
           (senior-iff ρ R i j .1 (x .0, y .0, a .2), x .1, y .1),
       λ f.
           let a = senior-iff ρ R i j .0 (f .0) in
-          senior-iff ρ (R ∖ single k) i j .1 (stands-other i .1 (a .0, f .1), stands-other j .1 (a .1, f .2), a .2),
+          senior-iff ρ (R ∖ s) i j .1 (∖-iff R s i .1 (a .0, f .1), ∖-iff R s j .1 (a .1, f .2), a .2),
+    )
+
+    pub junior-left : (j k : ℕ) → So (senior ρ (R ∖ s) k j) ↔ (So (senior ρ R k j) × (So (has s j) → ⊥) × (So (has s k) → ⊥))
+    junior-left j k = (λ h. let a = senior-left k j .0 h in (a .0, a .2, a .1), λ f. senior-left k j .1 (f .0, f .2, f .1))
+
+    -- a link between two that are left stays
+    pub immediate-stays : (i j : ℕ) → (So (has s i) → ⊥) → (So (has s j) → ⊥) → So (immediatelySenior ρ R i j) → So (immediatelySenior ρ (R ∖ s) i j)
+    immediate-stays i j di dj h =
+        let a = immediate-iff ρ R i j .0 h in
+        immediate-iff ρ (R ∖ s) i j .1
+        (senior-left i j .1 (a .0, di, dj), λ t l p q. a .1 t l (senior-left i t .0 p .0) (senior-left t j .0 q .0))
+
+    -- a new one skips roles of s: "chains of struck roles pass it on to the next that stands"
+    pub immediate-new : (i j : ℕ) → So (immediatelySenior ρ (R ∖ s) i j)
+        → So (immediatelySenior ρ R i j)
+        ⊎ (((t : ℕ) × So (has s t) × So (immediatelySenior ρ R i t)) × ((t : ℕ) × So (has s t) × So (immediatelySenior ρ R t j)))
+    immediate-new i j h =
+        let a = immediate-iff ρ (R ∖ s) i j .0 h in
+        let out = senior-left i j .0 (a .0) in
+        let struck : (t : ℕ) → So (senior ρ R i t) → So (senior ρ R t j) → So (has s t) =
+        λ t p q.
+        by-test (has s t) (λ y. y)
+        (λ y. absurd (a .1 t (stands-below ρ R o t (senior-stands ρ R o i t p .1)) (senior-left i t .1 (p, out .1, So-not y)) (senior-left t j .1 (q, So-not y, out .2)))) in
+        by-test (immediatelySenior ρ R i j) (λ e. _⊎_.inl e)
+        (λ e.
+        let w = between i j (out .0) (So-not e) in
+        let t = w .0 in
+        let x = immediate-below i t (w .1) in
+        let y = immediate-above t j (w .2) in
+        let xj : So (senior ρ R (x .0) j) = ⊎-elim (λ (d : t ≡ x .0). rw d at (w .2)) (λ z. senior-trans ρ R o (x .0) t j z (w .2)) (x .2) in
+        let iy : So (senior ρ R i (y .0)) = ⊎-elim (λ (d : t ≡ y .0). rw d at (w .1)) (λ z. senior-trans ρ R o i t (y .0) (w .1) z) (y .2) in
+        _⊎_.inr (
+          (x .0, struck (x .0) (immediate-iff ρ R i (x .0) .0 (x .1) .0) xj, x .1),
+          (y .0, struck (y .0) iy (immediate-iff ρ R (y .0) j .0 (y .1) .0), y .1),
+        ))
+
+    -- a role with no immediate junior in s keeps its immediate juniors and its direct permissions; one with no immediate senior in s its direct members
+    pub juniors-left : (i : ℕ) → (So (has s i) → ⊥) → ((t : ℕ) → So (has s t) → So (immediatelySenior ρ R i t) → ⊥)
+        → immediateJuniors ρ (R ∖ s) i ≡ immediateJuniors ρ R i
+    juniors-left i di apart =
+        same-set (immediateJuniors ρ (R ∖ s) i) (immediateJuniors ρ R i)
+        (λ j t.
+        let a = junior-iff ρ (R ∖ s) i j .0 t in
+        junior-iff ρ R i j .1 (a .0, ⊎-elim (λ h. h) (λ w. absurd (apart (w .0 .0) (w .0 .1) (w .0 .2))) (immediate-new i j (a .1))))
+        (λ j t.
+        let a = junior-iff ρ R i j .0 t in
+        junior-iff ρ (R ∖ s) i j .1 (a .0, immediate-stays i j di (λ x. apart j x (a .1)) (a .1)))
+
+    pub permissions-left : (i : ℕ) → (So (has s i) → ⊥) → ((t : ℕ) → So (has s t) → So (immediatelySenior ρ R i t) → ⊥)
+        → directPermissions ρ (R ∖ s) i ≡ directPermissions ρ R i
+    unfolding directPermissions
+    permissions-left i di apart =
+        direct-same (ρ .permissions) (candidateCount ρ) R (λ j k. senior ρ R k j) (permissionSet ρ) (juniors-side ρ R o) s (λ j k. senior ρ (R ∖ s) k j)
+        junior-left i di (λ t x h. apart t x (next-junior t i h))
+
+    pub members-left : (j : ℕ) → (So (has s j) → ⊥) → ((t : ℕ) → So (has s t) → So (immediatelySenior ρ R t j) → ⊥)
+        → directMembers ρ (R ∖ s) j ≡ directMembers ρ R j
+    unfolding directMembers
+    members-left j dj apart =
+        direct-same (ρ .users) (candidateCount ρ) R (senior ρ R) (authorisedUsers ρ) (seniors-side ρ R o) s (senior ρ (R ∖ s))
+        senior-left j dj (λ t x h. apart t x (next-senior t j h))
+
+  -- ---- one role k
+
+  module _ (k : ℕ) where
+    not-one : (i : ℕ) → i ≢ k → So (has (single k) i) → ⊥
+    not-one i d x = d (sym (single-iff k i .0 x))
+
+    pub stands-other : (i : ℕ) → So (has (R ∖ single k) i) ↔ (So (has R i) × (i ≢ k))
+    stands-other i = (
+      λ h. let d = ∖-iff R (single k) i .0 h in (d .0, λ e. d .1 (single-iff k i .1 (sym e))),
+      λ f. ∖-iff R (single k) i .1 (f .0, not-one i (f .1)),
+    )
+
+    pub senior-other : (i j : ℕ) → So (senior ρ (R ∖ single k) i j) ↔ (So (senior ρ R i j) × (i ≢ k) × (j ≢ k))
+    senior-other i j = (
+      λ h.
+          let a = senior-left (single k) i j .0 h in
+          (a .0, (λ e. a .1 (single-iff k i .1 (sym e))), λ e. a .2 (single-iff k j .1 (sym e))),
+      λ f. senior-left (single k) i j .1 (f .0, not-one i (f .1), not-one j (f .2)),
     )
 
     pub struck-absent : So (has (R ∖ single k) k) → ⊥
     struck-absent h = stands-other k .0 h .1 refl
 
-    -- a link between others stays; a new one skips k
-    pub immediate-stays : (i j : ℕ) → i ≢ k → j ≢ k → So (immediatelySenior ρ R i j) → So (immediatelySenior ρ (R ∖ single k) i j)
-    immediate-stays i j di dj h =
-        let a = immediate-iff ρ R i j .0 h in
-        immediate-iff ρ (R ∖ single k) i j .1
-        (senior-other i j .1 (a .0, di, dj), λ t l p q. a .1 t l (senior-other i t .0 p .0) (senior-other t j .0 q .0))
-
-    pub immediate-new : (i j : ℕ) → So (immediatelySenior ρ (R ∖ single k) i j)
-        → So (immediatelySenior ρ R i j) ⊎ (So (immediatelySenior ρ R i k) × So (immediatelySenior ρ R k j))
-    immediate-new i j h =
-        let a = immediate-iff ρ (R ∖ single k) i j .0 h in
-        let s = senior-other i j .0 (a .0) in
-        by-test (immediatelySenior ρ R i j) (λ e. _⊎_.inl e)
-        (λ e.
-        let w = between i j (s .0) (So-not e) in
-        equal-or (w .0) k
-        (λ (d : w .0 ≡ k).
-        let p : So (senior ρ R i k) = rw d at (w .1) in
-        let q : So (senior ρ R k j) = rw d at (w .2) in
-        _⊎_.inr (
-          immediate-iff ρ R i k .1
-              (p, λ t l x y. a .1 t l (senior-other i t .1 (x, s .1, senior-differs ρ R o t k y)) (senior-other t j .1 (senior-trans ρ R o t k j y q, senior-differs ρ R o t k y, s .2))),
-          immediate-iff ρ R k j .1 (
-            q,
-            λ t l x y.
-                a .1 t l (senior-other i t .1 (senior-trans ρ R o i k t p x, s .1, λ e. senior-differs ρ R o k t x (sym e))) (senior-other t j .1 (y, (λ e. senior-differs ρ R o k t x (sym e)), s .2)),
-          ),
-        ))
-        (λ d.
-        absurd
-        (a .1 (w .0) (stands-below ρ R o (w .0) (senior-stands ρ R o i (w .0) (w .1) .1)) (senior-other i (w .0) .1 (w .1, s .1, d)) (senior-other (w .0) j .1 (w .2, d, s .2)))))
-
-    -- the immediate juniors and the direct permissions of a role that is not immediately senior to k are the same
     pub juniors-same : (i : ℕ) → i ≢ k → (So (immediatelySenior ρ R i k) → ⊥) → immediateJuniors ρ (R ∖ single k) i ≡ immediateJuniors ρ R i
-    juniors-same i di d =
-        same-set (immediateJuniors ρ (R ∖ single k) i) (immediateJuniors ρ R i)
-        (λ j t.
-        let a = junior-iff ρ (R ∖ single k) i j .0 t in
-        junior-iff ρ R i j .1 (a .0, ⊎-elim (λ h. h) (λ w. absurd (d (w .0))) (immediate-new i j (a .1))))
-        (λ j t.
-        let a = junior-iff ρ R i j .0 t in
-        junior-iff ρ (R ∖ single k) i j .1 (a .0, immediate-stays i j di (λ (e : j ≡ k). d (rw e at (a .1))) (a .1)))
+    juniors-same i di d = juniors-left (single k) i (not-one i di) (λ t x h. let e : k ≡ t = single-iff k t .0 x in d (rw e h))
 
     pub permissions-same : (i : ℕ) → i ≢ k → (So (immediatelySenior ρ R i k) → ⊥) → directPermissions ρ (R ∖ single k) i ≡ directPermissions ρ R i
-    permissions-same i di d =
-        same-set (directPermissions ρ (R ∖ single k) i) (directPermissions ρ R i)
-        (λ p t.
-        let a = permission-iff ρ (R ∖ single k) i p .0 t in
-        permission-iff ρ R i p .1 (
-          a .0,
-          stands-other i .0 (a .1) .0,
-          a .2,
-          λ j l s q.
-              equal-or j k
-              (λ (e : j ≡ k).
-              let s' : So (senior ρ R i k) = rw e at s in
-              let q' : So (has (permissionSet ρ k) p) = rw e at q in
-              let w = between i k s' d in
-              a .3 (w .0) (stands-below ρ R o (w .0) (senior-stands ρ R o i (w .0) (w .1) .1))
-              (senior-other i (w .0) .1 (w .1, di, senior-differs ρ R o (w .0) k (w .2))) (senior-permission ρ R o (w .0) k p (w .2) q'))
-              (λ dj. a .3 j l (senior-other i j .1 (s, di, dj)) q),
-        ))
-        (λ p t.
-        let a = permission-iff ρ R i p .0 t in
-        permission-iff ρ (R ∖ single k) i p .1 (a .0, stands-other i .1 (a .1, di), a .2, λ j l s q. a .3 j l (senior-other i j .0 s .0) q))
+    permissions-same i di d = permissions-left (single k) i (not-one i di) (λ t x h. let e : k ≡ t = single-iff k t .0 x in d (rw e h))
 
-    -- the direct members of a role that is not immediately junior to k are the same
     pub members-same : (j : ℕ) → j ≢ k → (So (immediatelySenior ρ R k j) → ⊥) → directMembers ρ (R ∖ single k) j ≡ directMembers ρ R j
-    members-same j dj d =
-        same-set (directMembers ρ (R ∖ single k) j) (directMembers ρ R j)
-        (λ u t.
-        let a = member-iff ρ (R ∖ single k) j u .0 t in
-        member-iff ρ R j u .1 (
-          a .0,
-          stands-other j .0 (a .1) .0,
-          a .2,
-          λ i l s q.
-              equal-or i k
-              (λ (e : i ≡ k).
-              let s' : So (senior ρ R k j) = rw e at s in
-              let q' : So (has (authorisedUsers ρ k) u) = rw e at q in
-              let w = between k j s' d in
-              a .3 (w .0) (stands-below ρ R o (w .0) (senior-stands ρ R o k (w .0) (w .1) .1))
-              (senior-other (w .0) j .1 (w .2, (λ e. senior-differs ρ R o k (w .0) (w .1) (sym e)), dj)) (senior-user ρ R o k (w .0) u (w .1) q'))
-              (λ di. a .3 i l (senior-other i j .1 (s, di, dj)) q),
-        ))
-        (λ u t.
-        let a = member-iff ρ R j u .0 t in
-        member-iff ρ (R ∖ single k) j u .1 (a .0, stands-other j .1 (a .1, dj), a .2, λ i l s q. a .3 i l (senior-other i j .0 s .0) q))
+    members-same j dj d = members-left (single k) j (not-one j dj) (λ t x h. let e : k ≡ t = single-iff k t .0 x in d (rw e h))
 
     -- where k has no direct members, those of all others are the same: whoever becomes direct elsewhere was direct with k
     pub members-kept : directMembers ρ R k ≡ 0 → (j : ℕ) → j ≢ k → directMembers ρ (R ∖ single k) j ≡ directMembers ρ R j
+    unfolding directMembers
     members-kept none j dj =
-        same-set (directMembers ρ (R ∖ single k) j) (directMembers ρ R j)
-        (λ u t.
-        let a = member-iff ρ (R ∖ single k) j u .0 t in
-        member-iff ρ R j u .1 (
-          a .0,
-          stands-other j .0 (a .1) .0,
-          a .2,
-          λ i l s q.
-              equal-or i k
-              (λ (e : i ≡ k).
-              let s' : So (senior ρ R k j) = rw e at s in
-              let q' : So (has (authorisedUsers ρ k) u) = rw e at q in
-              let own : So (has (directMembers ρ R k) u) =
-              member-iff ρ R k u .1 (
-                a .0,
-                senior-stands ρ R o k j s' .0,
-                q',
-                λ h lh sh qh. a .3 h lh (senior-other h j .1 (senior-trans ρ R o h k j sh s', senior-differs ρ R o h k sh, dj)) qh,
-              ) in
-              So-not (has-zero u) (rw none at own))
-              (λ di. a .3 i l (senior-other i j .1 (s, di, dj)) q),
-        ))
-        (λ u t.
-        let a = member-iff ρ R j u .0 t in
-        member-iff ρ (R ∖ single k) j u .1 (a .0, stands-other j .1 (a .1, dj), a .2, λ i l s q. a .3 i l (senior-other i j .0 s .0) q))
+        direct-kept (ρ .users) (candidateCount ρ) R (senior ρ R) (authorisedUsers ρ) (seniors-side ρ R o) (single k) (senior ρ (R ∖ single k))
+        (senior-left (single k)) (λ t x. let e : k ≡ t = single-iff k t .0 x in rw e at none) j (not-one j dj)

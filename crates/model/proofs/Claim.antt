@@ -6,26 +6,28 @@ use mathlib.Core.Logic.{_↔_, _≢_}
 use mathlib.Core.List.{List, [], _∷_, _++_}
 use Prim.Native.Nat.{ℕ, _<_}
 use lib.Dec.{eqb}
-use lib.ListN.{length, getD}
+use lib.ListN.{getD}
 use Rattle.sets.specs.Truth.{isnt, if_then_else_}
 use Rattle.sets.specs.Sets.{has, _∪_, _∖_, single}
 use Rattle.sets.proofs.Truth.{by-test, So-not, not-So, isnt-iff, eqb-iff, if-true, if-false}
 use Rattle.sets.proofs.Order.{with-without}
 use Rattle.model.specs.Hierarchy.{candidateCount, building}
-use Rattle.model.specs.Chains.{link, Chain, other, Authorised}
+use Rattle.model.specs.Chains.{link, Chain, linksBut, may, Authorised}
 use Rattle.model.specs.Coverage.{grant}
 use Rattle.model.specs.State.{State, rolesOf, standingNow}
-use Rattle.model.specs.Record.{recordLength, built, stateOf, rowsOf, sound}
+use Rattle.model.specs.Record.{built, stateOf, roleRowsOf, sound}
 use Rattle.model.specs.Altered.{Altered}
-use Rattle.model.specs.Machine.{Call, Answer, Outcome, refusal, accepted, step, stateAfter, answersTo}
+use Rattle.model.specs.Machine.{Call, Reply, Outcome, refusal, accepted, step, stateAfter, repliesTo}
 use Rattle.model.specs.Machine.Call.{strike, restore}
 use Rattle.model.specs.Calls.{unfit, Edited, edit}
-use Rattle.model.specs.Claim.{wordsAfter, answersGiven, Kept}
+use Rattle.model.specs.Claim.{wordsAfter, repliesGiven, Kept}
 use Rattle.model.proofs.Chains.{may-iff}
+use Rattle.model.proofs.Reading.{Ordered}
 use Rattle.model.proofs.Building.{building-below, granted-may, may-possible, no-return, no-replacement}
 use Rattle.model.proofs.Record.{sound-iff, sound-built, state-back, rows-back, built-sound}
+use Rattle.model.proofs.Refusals.{unfit-iff, restore-iff}
 use Rattle.model.proofs.Altered.{strike-altered, restore-altered}
-use Rattle.model.proofs.Steps.{state-append, limits-ordered, roles-now, standing-now, now-now, now-same, step-accepted, step-refused, step-code, restore-accepted, Fit, step-fit, after-fit, after-rows}
+use Rattle.model.proofs.Steps.{state-append, limits-ordered, roles-now, standing-now, now-now, now-same, step-accepted, step-refused, step-code, Fit, step-fit, after-fit, after-rows}
 
 -- a sound record's state is within the limits and covers each grant, and conversely
 pub sound-fit : (ws : List ℕ) → So (sound ws) → Fit (stateOf ws)
@@ -34,34 +36,26 @@ sound-fit ws h = let a = sound-iff ws .0 h in record { limits = a .1; covers-all
 pub fit-sound : (st : State) → Fit st → So (sound (built st))
 fit-sound st f = built-sound st (f .limits) (f .covers-all)
 
-pub sound-unfit : (ws : List ℕ) → So (sound ws) → unfit ws ≡ 0
-unfolding unfit
-sound-unfit ws h =
-    let e = sound-iff ws .0 h .0 in
-    let t = eqb (length ws) recordLength in
-    if-false (isnt t) 1 _ (not-So (isnt t) (λ x. isnt-iff t .0 x (eqb-iff (length ws) recordLength .1 e)))
-    ∙ if-false (isnt (sound ws)) 5 0 (not-So (isnt (sound ws)) (λ x. isnt-iff (sound ws) .0 x h))
-
 -- on a sound record a call answers as the machine does, and leaves what building afresh from the machine's state gives
 module _ (ws : List ℕ) (h : So (sound ws)) (call : Call) where
   edit-sound : edit ws call
-      ≡ record { given = step (stateOf ws) call .given; words = if eqb (step (stateOf ws) call .given .code) 0 then built (step (stateOf ws) call .state) else ws }
+      ≡ record { replied = step (stateOf ws) call .replied; words = if eqb (step (stateOf ws) call .replied .code) 0 then built (step (stateOf ws) call .state) else ws }
   unfolding edit
   edit-sound =
       let t = eqb (unfit ws) 0 in
-      if-false (isnt t) _ _ (not-So (isnt t) (λ x. isnt-iff t .0 x (eqb-iff (unfit ws) 0 .1 (sound-unfit ws h))))
+      if-false (isnt t) _ _ (not-So (isnt t) (λ x. isnt-iff t .0 x (eqb-iff (unfit ws) 0 .1 (unfit-iff ws .1 h))))
 
-  pub edit-given : edit ws call .given ≡ step (stateOf ws) call .given
-  edit-given = ap (λ (e : Edited). e .given) edit-sound
+  pub edit-replied : edit ws call .replied ≡ step (stateOf ws) call .replied
+  edit-replied = ap (λ (e : Edited). e .replied) edit-sound
 
   pub edit-words : edit ws call .words ≡ built (step (stateOf ws) call .state)
   edit-words =
       let o = step (stateOf ws) call in
-      let t = eqb (o .given .code) 0 in
+      let t = eqb (o .replied .code) 0 in
       ap (λ (e : Edited). e .words) edit-sound
       ∙ by-test t (λ b. if-true t (built (o .state)) ws b)
       (λ b.
-      let d : refusal (stateOf ws) call ≢ 0 = λ e. So-not b (eqb-iff (o .given .code) 0 .1 (step-code (stateOf ws) call ∙ e)) in
+      let d : refusal (stateOf ws) call ≢ 0 = λ e. So-not b (eqb-iff (o .replied .code) 0 .1 (step-code (stateOf ws) call ∙ e)) in
       if-false t (built (o .state)) ws b ∙ sound-built ws h ∙ ap (λ (x : Outcome). built (x .state)) (sym (step-refused (stateOf ws) call d)))
 
   pub edit-fit : So (sound (edit ws call .words))
@@ -83,12 +77,12 @@ after-state ws h [] = refl
 after-state ws h (call ∷ calls) =
     after-state (edit ws call .words) (edit-fit ws h call) calls ∙ ap (λ (st : State). stateAfter st calls) (edit-state ws h call)
 
-pub after-answers : (ws : List ℕ) → So (sound ws) → (calls : List Call) → answersGiven ws calls ≡ answersTo (stateOf ws) calls
-unfolding answersGiven answersTo
+pub after-answers : (ws : List ℕ) → So (sound ws) → (calls : List Call) → repliesGiven ws calls ≡ repliesTo (stateOf ws) calls
+unfolding repliesGiven repliesTo
 after-answers ws h [] = refl
 after-answers ws h (call ∷ calls) =
-    ap₂ (λ (a : Answer) (l : List Answer). a ∷ l) (edit-given ws h call)
-    (after-answers (edit ws call .words) (edit-fit ws h call) calls ∙ ap (λ (st : State). answersTo st calls) (edit-state ws h call))
+    ap₂ (λ (a : Reply) (l : List Reply). a ∷ l) (edit-replied ws h call)
+    (after-answers (edit ws call .words) (edit-fit ws h call) calls ∙ ap (λ (st : State). repliesTo st calls) (edit-state ws h call))
 
 after-append : (ws : List ℕ) (calls : List Call) (call : Call) → wordsAfter ws (calls ++ (call ∷ [])) ≡ edit (wordsAfter ws calls) call .words
 unfolding wordsAfter
@@ -98,46 +92,55 @@ after-append ws (first ∷ calls) call = after-append (edit ws first .words) cal
 -- ---- authorised, chains and links, read off a sound record's own words
 
 module _ (st : State) (f : Fit st) where
-  rows-are : rowsOf (built st) ≡ building (rolesOf st) (st .standing)
+  rows-are : roleRowsOf (built st) ≡ building (rolesOf st) (st .standing)
   rows-are = rows-back st (f .limits)
 
-  pub words-authorised : (u p : ℕ) → u < st .users → p < st .permissions → Authorised (rowsOf (built st)) u p ↔ So (has (getD (st .rows) u 0) p)
+  o : Ordered (rolesOf st) (st .standing)
+  o = limits-ordered st (f .limits)
+
+  same : (u p : ℕ) → So (may (candidateCount (rolesOf st)) (building (rolesOf st) (st .standing)) u p) ↔ Authorised (building (rolesOf st) (st .standing)) u p
+  same = may-iff (candidateCount (rolesOf st)) (building (rolesOf st) (st .standing)) (building-below (rolesOf st) (st .standing) o)
+
+  -- whoever is granted a permission is authorised for it, and whoever is authorised has it in the possible row
+  pub words-granted : (u p : ℕ) → u < st .users → p < st .permissions → So (grant (rolesOf st) u p) → Authorised (roleRowsOf (built st)) u p
+  unfolding rolesOf
+  words-granted u p lu lp g = rw rows-are (same u p .0 (granted-may (rolesOf st) (st .standing) o (f .covers-all) u p lu lp g))
+
+  pub words-possible : (u p : ℕ) → p < st .permissions → Authorised (roleRowsOf (built st)) u p → So (has (getD (rolesOf st .possible) u 0) p)
+  unfolding rolesOf
+  words-possible u p lp a = may-possible (rolesOf st) (st .standing) o u p lp (same u p .1 (rw rows-are at a))
+
+  -- both rows are the crew row
+  pub words-authorised : (u p : ℕ) → u < st .users → p < st .permissions → Authorised (roleRowsOf (built st)) u p ↔ So (has (getD (st .rows) u 0) p)
   unfolding rolesOf grant
-  words-authorised u p lu lp =
-      let ρ = rolesOf st in
-      let o = limits-ordered st (f .limits) in
-      let same = may-iff (candidateCount ρ) (building ρ (st .standing)) (building-below ρ (st .standing) o) u p in
-      rw rows-are (λ a. may-possible ρ (st .standing) o u p lp (same .1 a), λ g. same .0 (granted-may ρ (st .standing) o (f .covers-all) u p lu lp g))
+  words-authorised u p lu lp = (words-possible u p lp, words-granted u p lu lp)
 
-  pub words-no-return : (k : ℕ) → Chain (link (rowsOf (built st))) k k → ⊥
-  words-no-return k = rw rows-are (no-return (rolesOf st) (st .standing) (limits-ordered st (f .limits)) k)
+  pub words-no-return : (k : ℕ) → Chain (link (roleRowsOf (built st))) k k → ⊥
+  words-no-return k = rw rows-are (no-return (rolesOf st) (st .standing) o k)
 
-  pub words-no-replacement : (x y : ℕ) → So (link (rowsOf (built st)) x y) → Chain (other (link (rowsOf (built st))) x y) x y → ⊥
-  words-no-replacement x y = rw rows-are (no-replacement (rolesOf st) (st .standing) (limits-ordered st (f .limits)) x y)
+  pub words-no-replacement : (x y : ℕ) → So (link (roleRowsOf (built st)) x y) → Chain (linksBut (link (roleRowsOf (built st))) x y) x y → ⊥
+  words-no-replacement x y = rw rows-are (no-replacement (rolesOf st) (st .standing) o x y)
 
 -- ---- a strike and a restoration that are accepted
 
 pub strike-words : (st : State) (k : ℕ) → Fit st → refusal st (strike k) ≡ 0
-    → Altered (rolesOf st) (st .standing) k (built st) (built (step st (strike k) .state))
+    → Altered (rolesOf st) (st .standing) (single k) (built st) (built (step st (strike k) .state))
 unfolding accepted
-strike-words st k f e =
-    let s = step-accepted st (strike k) e in
-    let f' : Fit (standingNow st (st .standing ∖ single k)) = rw s at (step-fit st (strike k) f) in
-    rw s (strike-altered st k (limits-ordered st (f .limits)) (f .limits) (f' .limits))
+strike-words st k f e = rw (step-accepted st (strike k) e) (strike-altered st (single k) (f .limits))
 
 pub restore-words : (st : State) (k : ℕ) → Fit st → refusal st (restore k) ≡ 0
-    → Altered (rolesOf st) (step st (restore k) .state .standing) k (built st) (built (step st (restore k) .state))
+    → Altered (rolesOf st) (step st (restore k) .state .standing) (single k) (built st) (built (step st (restore k) .state))
 unfolding accepted
 restore-words st k f e =
     let s = step-accepted st (restore k) e in
-    let a = restore-accepted st k e in
+    let a = restore-iff st k .0 e in
     let full = standingNow st (st .standing ∪ single k) in
     let f' : Fit full = rw s at (step-fit st (restore k) f) in
     let back : standingNow full (full .standing ∖ single k) ≡ st =
     now-now st (st .standing ∪ single k) (full .standing ∖ single k)
     ∙ ap (standingNow st) (ap (λ (x : ℕ). x ∖ single k) (standing-now st (st .standing ∪ single k)) ∙ with-without (st .standing) k (a .1)) ∙ now-same st in
-    let r : Altered (rolesOf full) (full .standing) k (built (standingNow full (full .standing ∖ single k))) (built full) =
-    restore-altered full k (limits-ordered full (f' .limits)) (f' .limits) (rw back (f .limits)) in
+    let r : Altered (rolesOf full) (full .standing) (single k) (built (standingNow full (full .standing ∖ single k))) (built full) =
+    restore-altered full (single k) (f' .limits) in
     rw s (rw (roles-now st (st .standing ∪ single k), back) at r)
 
 -- ---- the claim
@@ -155,7 +158,7 @@ claim ws h calls =
       afresh = words;
       authorised = λ u p lu lp.
           rw words
-          (subst (λ (rows : List ℕ). Authorised (rowsOf (built end)) u p ↔ So (has (getD rows u 0) p)) (same .2)
+          (subst (λ (rows : List ℕ). Authorised (roleRowsOf (built end)) u p ↔ So (has (getD rows u 0) p)) (same .2)
           (words-authorised end f u p (rw (same .0) lu) (rw (same .1) lp)));
       no-return = λ k. rw words (words-no-return end f k);
       no-replacement = λ x y. rw words (words-no-replacement end f x y);
@@ -171,22 +174,22 @@ claim ws h calls =
     next-words before call =
         at-prefix (before ++ (call ∷ [])) ∙ ap built (state-append (stateOf ws) before call)
 
-    code-of : (before : List Call) (call : Call) → edit (wordsAfter ws before) call .given .code ≡ 0 → refusal (stateAfter (stateOf ws) before) call ≡ 0
+    code-of : (before : List Call) (call : Call) → edit (wordsAfter ws before) call .replied .code ≡ 0 → refusal (stateAfter (stateOf ws) before) call ≡ 0
     code-of before call e =
         rw (after-state ws h before) at
         (sym (step-code (stateOf (wordsAfter ws before)) call)
-        ∙ ap (λ (a : Answer). a .code) (sym (edit-given (wordsAfter ws before) (after-sound ws h before) call)) ∙ e)
+        ∙ ap (λ (a : Reply). a .code) (sym (edit-replied (wordsAfter ws before) (after-sound ws h before) call)) ∙ e)
 
-    prefix-strike : (before : List Call) (k : ℕ) → edit (wordsAfter ws before) (strike k) .given .code ≡ 0
-        → Altered (rolesOf (stateAfter (stateOf ws) before)) (stateAfter (stateOf ws) before .standing) k
+    prefix-strike : (before : List Call) (k : ℕ) → edit (wordsAfter ws before) (strike k) .replied .code ≡ 0
+        → Altered (rolesOf (stateAfter (stateOf ws) before)) (stateAfter (stateOf ws) before .standing) (single k)
         (wordsAfter ws before) (wordsAfter ws (before ++ (strike k ∷ [])))
     prefix-strike before k e =
         let st = stateAfter (stateOf ws) before in
         rw (at-prefix before, next-words before (strike k))
         (strike-words st k (after-fit (stateOf ws) before (sound-fit ws h)) (code-of before (strike k) e))
 
-    prefix-restore : (before : List Call) (k : ℕ) → edit (wordsAfter ws before) (restore k) .given .code ≡ 0
-        → Altered (rolesOf (stateAfter (stateOf ws) before)) (stateAfter (stateOf ws) (before ++ (restore k ∷ [])) .standing) k
+    prefix-restore : (before : List Call) (k : ℕ) → edit (wordsAfter ws before) (restore k) .replied .code ≡ 0
+        → Altered (rolesOf (stateAfter (stateOf ws) before)) (stateAfter (stateOf ws) (before ++ (restore k ∷ [])) .standing) (single k)
         (wordsAfter ws before) (wordsAfter ws (before ++ (restore k ∷ [])))
     prefix-restore before k e =
         let st = stateAfter (stateOf ws) before in

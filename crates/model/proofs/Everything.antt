@@ -7,20 +7,23 @@ use Rattle.sets.specs.Sets.{has, _∩_, _∪_, _∖_, single, subset, properSub
 use Rattle.sets.specs.Words.{value, word}
 use Rattle.model.specs.Lists.{tabulate, elems, setAt, rowsAt}
 use Rattle.model.specs.Candidates.{place, admit, admitMeets, addRow, minedTo, candidates}
-use Rattle.model.specs.Hierarchy.{candidateCount, permissionSet, authorisedUsers, senior, immediatelySenior, immediateJuniors, directPermissions, directMembers, building}
-use Rattle.model.specs.Chains.{link, other, onward, follow, reached, directRoles, rolesReached, may}
+use Rattle.model.specs.Hierarchy.{candidateCount, permissionSet, authorisedUsers, senior, immediatelySenior, immediateJuniors, directOf, directPermissions, directMembers, building}
+use Rattle.model.specs.Chains.{link, linksBut, onward, follow, reached, directRoles, rolesReached, may}
 use Rattle.model.specs.Coverage.{grant, covers, covered, allCovered, spared, strikable, strikables}
-use Rattle.model.specs.Quality.{weightsAllowed, counted, counts, weigh, quality}
+use Rattle.model.specs.Quality.{weightsAllowed, counted, counts, weigh, quality, toleranceAllowed}
 use Rattle.model.specs.State.{rolesOf, standingNow, fresh, withinLimits, rowsWithin}
-use Rattle.model.specs.Record.{headerWord, regionWord, wordAt, built, stateOf, rowsOf, stateSound, sound}
-use Rattle.model.specs.Machine.{least, coverers, redundancy, before, first, foremost, toleranceAllowed, dropped, struck, kept, takeUp, takeUpAll, pass, passes, begin, eliminated, restored, tryRestore, reviewTo, reviewPasses, reviewed, answer, refusal, accepted, step, stateAfter, answersTo}
+use Rattle.model.specs.Record.{headerWord, regionWord, wordAt, built, stateOf, roleRowsOf, stateSound, sound}
+use Rattle.model.specs.Refusals.{_unless_, _orElse_, lengthRefusal, soundnessRefusal, limitsRefusal, crewSizeRefusal, crewRowsRefusal, crewRefusal, candidatesRefusal, roleRefusal, pairRefusal, absentRefusal, standingRefusal, strikeRefusal, weightsRefusal, toleranceRefusal}
+use Rattle.model.specs.Machine.{least, coverers, redundancy, before, first, foremost, afterDrop, afterStrike, afterStay, takeUp, takeUpAll, pass, passes, begin, eliminated, afterRestore, tryRestore, reviewTo, reviewPasses, reviewed, reply, refusal, accepted, step, stateAfter, repliesTo}
 
 unfoldable pub everything : ℕ
 unfolding ones onesIn _and_ _or_ _implies_ isnt if_then_else_ bit any all none total has _∩_ _∪_ _∖_ single subset properSubset collect value word
     tabulate elems setAt rowsAt place admit admitMeets addRow minedTo candidates candidateCount permissionSet authorisedUsers senior
-    immediatelySenior immediateJuniors directPermissions directMembers building link other onward follow reached directRoles rolesReached may
+    immediatelySenior immediateJuniors directOf directPermissions directMembers building link linksBut onward follow reached directRoles rolesReached may
     grant covers covered allCovered spared strikable strikables weightsAllowed counted counts weigh quality rolesOf standingNow fresh
-    withinLimits rowsWithin headerWord regionWord wordAt built stateOf rowsOf stateSound sound least coverers redundancy before first foremost
-    toleranceAllowed dropped struck kept takeUp takeUpAll pass passes begin eliminated restored tryRestore reviewTo reviewPasses reviewed
-    answer refusal accepted step stateAfter answersTo
+    withinLimits rowsWithin headerWord regionWord wordAt built stateOf roleRowsOf stateSound sound _unless_ _orElse_ lengthRefusal
+    soundnessRefusal limitsRefusal crewSizeRefusal crewRowsRefusal crewRefusal candidatesRefusal roleRefusal pairRefusal absentRefusal standingRefusal
+    strikeRefusal weightsRefusal toleranceRefusal least coverers redundancy before first foremost
+    toleranceAllowed afterDrop afterStrike afterStay takeUp takeUpAll pass passes begin eliminated afterRestore tryRestore reviewTo reviewPasses reviewed
+    reply refusal accepted step stateAfter repliesTo
 everything = 0

@@ -9,7 +9,7 @@ use lib.ListN.{length}
 use Rattle.sets.specs.Truth.{_and_}
 use Rattle.model.specs.Quality.{Weights}
 use Rattle.model.specs.State.{fresh}
-use Rattle.model.specs.Machine.{Call, Answer, answer, stateAfter, answersTo}
+use Rattle.model.specs.Machine.{Call, Reply, reply, stateAfter, repliesTo}
 use Rattle.model.specs.Machine.Call.{strike, eliminate, review}
 use Rattle.model.proofs.Everything.{everything}
 
@@ -18,10 +18,10 @@ pub record Guard : Type 0 where
   pub permissions : ℕ
   pub rows : List ℕ
   pub calls : List Call
-  pub answers : List Answer
+  pub answers : List Reply
   pub standing : ℕ
 
-pub sameAnswers : List Answer → List Answer → Bool
+pub sameAnswers : List Reply → List Reply → Bool
 sameAnswers [] [] = true
 sameAnswers [] (b ∷ bs) = false
 sameAnswers (a ∷ rest) [] = false
@@ -30,7 +30,7 @@ sameAnswers (a ∷ rest) (b ∷ bs) = eqb (a .code) (b .code) and eqb (a .change
 pub holds : Guard → Bool
 holds g =
     let start = fresh (length (g .rows)) (g .permissions) (g .rows) in
-    sameAnswers (answersTo start (g .calls)) (g .answers) and eqb (stateAfter start (g .calls) .standing) (g .standing)
+    sameAnswers (repliesTo start (g .calls)) (g .answers) and eqb (stateAfter start (g .calls) .standing) (g .standing)
 
 pub allHold : List Guard → Bool
 allHold [] = true
@@ -45,35 +45,35 @@ eliminates w1 w2 w3 w4 a b = eliminate (weights w1 w2 w3 w4) (record { numerator
 abbrev reviews : ℕ → ℕ → ℕ → ℕ → Call
 reviews w1 w2 w3 w4 = review (weights w1 w2 w3 w4)
 
-abbrev guard : ℕ → List ℕ → List Call → List Answer → ℕ → Guard
+abbrev guard : ℕ → List ℕ → List Call → List Reply → ℕ → Guard
 guard m rows calls answers standing = record { permissions = m; rows = rows; calls = calls; answers = answers; standing = standing }
 
 pub guards : List Guard
 guards =
     -- striking at b·q' = a·q
-    guard 3 (3 ∷ 5 ∷ []) (eliminates 1 0 1 0 1 1 ∷ []) (answer 0 0 1 ∷ []) 7
+    guard 3 (3 ∷ 5 ∷ []) (eliminates 1 0 1 0 1 1 ∷ []) (reply 0 0 1 ∷ []) 7
     -- ties by the higher number
-    ∷ guard 3 (1 ∷ 3 ∷ 6 ∷ []) (eliminates 1 0 0 0 1 1 ∷ []) (answer 0 1 2 ∷ []) 13
+    ∷ guard 3 (1 ∷ 3 ∷ 6 ∷ []) (eliminates 1 0 0 0 1 1 ∷ []) (reply 0 1 2 ∷ []) 13
     -- redundancy counted over all standing roles
-    ∷ guard 4 (3 ∷ 5 ∷ 10 ∷ []) (eliminates 0 0 0 1 1 1 ∷ []) (answer 0 1 3 ∷ []) 27
+    ∷ guard 4 (3 ∷ 5 ∷ 10 ∷ []) (eliminates 0 0 0 1 1 1 ∷ []) (reply 0 1 3 ∷ []) 27
     -- redundancy counted over the worklist
-    ∷ guard 4 (3 ∷ 3 ∷ 5 ∷ 14 ∷ []) (eliminates 0 1 3 0 9 8 ∷ []) (answer 0 2 9 ∷ []) 43
+    ∷ guard 4 (3 ∷ 3 ∷ 5 ∷ 14 ∷ []) (eliminates 0 1 3 0 9 8 ∷ []) (reply 0 2 9 ∷ []) 43
     -- ordering anew inside a pass
-    ∷ guard 3 (3 ∷ 5 ∷ 6 ∷ []) (eliminates 1 0 0 0 1 1 ∷ []) (answer 0 3 6 ∷ []) 52
+    ∷ guard 3 (3 ∷ 5 ∷ 6 ∷ []) (eliminates 1 0 0 0 1 1 ∷ []) (reply 0 3 6 ∷ []) 52
     -- one pass only
-    ∷ guard 3 (1 ∷ 3 ∷ 6 ∷ []) (eliminates 1 0 1 0 1 1 ∷ []) (answer 0 1 3 ∷ []) 11
+    ∷ guard 3 (1 ∷ 3 ∷ 6 ∷ []) (eliminates 1 0 1 0 1 1 ∷ []) (reply 0 1 3 ∷ []) 11
     -- every trial compared with the quality at the start
-    ∷ guard 3 (3 ∷ 5 ∷ 7 ∷ []) (eliminates 1 0 1 0 1 1 ∷ []) (answer 0 1 3 ∷ []) 7
+    ∷ guard 3 (3 ∷ 5 ∷ 7 ∷ []) (eliminates 1 0 1 0 1 1 ∷ []) (reply 0 1 3 ∷ []) 7
     -- review at q' = q
-    ∷ guard 3 (3 ∷ 5 ∷ []) (strike 0 ∷ reviews 1 0 1 0 ∷ []) (answer 0 0 0 ∷ answer 0 0 1 ∷ []) 6
+    ∷ guard 3 (3 ∷ 5 ∷ []) (strike 0 ∷ reviews 1 0 1 0 ∷ []) (reply 0 0 0 ∷ reply 0 0 1 ∷ []) 6
     -- one pass of a review only
-    ∷ guard 3 (3 ∷ 5 ∷ 7 ∷ []) (strike 0 ∷ strike 3 ∷ reviews 0 1 0 0 ∷ []) (answer 0 0 0 ∷ answer 0 0 0 ∷ answer 0 1 3 ∷ []) 14
+    ∷ guard 3 (3 ∷ 5 ∷ 7 ∷ []) (strike 0 ∷ strike 3 ∷ reviews 0 1 0 0 ∷ []) (reply 0 0 0 ∷ reply 0 0 0 ∷ reply 0 1 3 ∷ []) 14
     -- a role covering its own grants
-    ∷ guard 3 (3 ∷ 6 ∷ 7 ∷ []) (strike 1 ∷ []) (answer 8 0 0 ∷ []) 15
-    -- persons' own sets dropped
-    ∷ guard 3 (3 ∷ 6 ∷ 7 ∷ []) (eliminates 1 1 1 1 1 1 ∷ []) (answer 0 2 2 ∷ []) 6
+    ∷ guard 3 (3 ∷ 6 ∷ 7 ∷ []) (strike 1 ∷ []) (reply 8 0 0 ∷ []) 15
+    -- users' own sets dropped
+    ∷ guard 3 (3 ∷ 6 ∷ 7 ∷ []) (eliminates 1 1 1 1 1 1 ∷ []) (reply 0 2 2 ∷ []) 6
     -- a member left direct two links below
-    ∷ guard 3 (3 ∷ 5 ∷ 7 ∷ []) (eliminates 0 1 0 0 1 1 ∷ []) (answer 0 0 2 ∷ []) 15
+    ∷ guard 3 (3 ∷ 5 ∷ 7 ∷ []) (eliminates 0 1 0 0 1 1 ∷ []) (reply 0 0 2 ∷ []) 15
     ∷ []
 
 pub guards-hold : So (allHold guards)

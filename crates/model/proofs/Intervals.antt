@@ -115,7 +115,7 @@ shared-lower st lim k lk us speaks j lj all =
     (λ p h.
     meet .exactly p .1
     (λ u t.
-    let lu : u < st .users = rw (lim .rows-count) at (item-below (length (st .rows)) (meet .persons) u (meet .within) t) in
+    let lu : u < st .users = rw (lim .rows-count) at (item-below (length (st .rows)) (meet .users) u (meet .within) t) in
     let within : So (subset b (getD (st .rows) u 0)) = subset-iff b (getD (st .rows) u 0) .1 (λ q g. meet .exactly q .0 g u t) in
     let w = speaks u (user-iff ρ k u .1 (lu, within)) in
     let same : getD (st .rows) (w .0) 0 ≡ getD (st .rows) u 0 = w .2 in

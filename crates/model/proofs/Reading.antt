@@ -1,15 +1,15 @@
 -- Each definition of the building and of coverage, as the statement that it computes.
 -- Assumes nothing.
 use mathlib.Core.Path.{_≡_, refl, sym}
-use mathlib.Core.Bool.{Bool, So}
+use mathlib.Core.Bool.{So}
 use mathlib.Core.Logic.{_↔_, _≢_}
 use Prim.Native.Nat.{ℕ, _<_, _^_}
 use lib.ListN.{getD}
-use Rattle.sets.specs.Truth.{_and_, _implies_, all, none}
 use Rattle.sets.specs.Sets.{has, _∖_, single, subset, properSubset}
-use Rattle.sets.proofs.Truth.{and-iff, implies-iff, any-iff, all-iff, none-of, none-is}
+use Rattle.sets.proofs.Truth.{and-iff, reflect}
 use Rattle.sets.proofs.Order.{collect-iff, single-iff, ∖-iff}
 use Rattle.model.specs.Hierarchy.{Roles, candidateCount, permissionSet, authorisedUsers, senior, immediatelySenior, immediateJuniors, directPermissions, directMembers}
+use Rattle.model.proofs.Direct.{direct-iff}
 use Rattle.model.specs.Coverage.{grant, covers, covered, allCovered, spared, strikable, strikables}
 
 -- what the theory of the hierarchy rests on: a proper subset has a lower number, and the standing roles are candidates
@@ -30,11 +30,8 @@ module _ (ρ : Roles) where
   pub covered-iff : (s u p : ℕ) → So (covered ρ s u p) ↔ ((k : ℕ) × (k < candidateCount ρ) × So (has s k) × So (covers ρ k u p))
   unfolding covered
   covered-iff s u p = (
-    λ h.
-        let w = any-iff (candidateCount ρ) (λ k. has s k and covers ρ k u p) .0 h in
-        let b = and-iff (has s (w .0)) (covers ρ (w .0) u p) .0 (w .2) in
-        (w .0, w .1, b .0, b .1),
-    λ w. any-iff (candidateCount ρ) (λ k. has s k and covers ρ k u p) .1 (w .0, w .1, and-iff (has s (w .0)) (covers ρ (w .0) u p) .1 (w .2, w .3)),
+    λ h. let w : (k : ℕ) × (k < candidateCount ρ) × (So (has s k) × So (covers ρ k u p)) = simp reflect at h in (w .0, w .1, w .2 .0, w .2 .1),
+    λ w. simp reflect (w .0, w .1, (w .2, w .3)),
   )
 
   -- "each crew grant is covered"
@@ -42,33 +39,19 @@ module _ (ρ : Roles) where
       → So (allCovered ρ R) ↔ ((u p : ℕ) → u < ρ .users → p < ρ .permissions → So (grant ρ u p) → So (covered ρ R u p))
   unfolding allCovered
   allCovered-iff R = (
-    λ h u p lu lp g.
-        implies-iff (grant ρ u p) (covered ρ R u p) .0
-        (all-iff (ρ .permissions) (λ p. grant ρ u p implies covered ρ R u p) .0
-        (all-iff (ρ .users) (λ u. all (ρ .permissions) (λ p. grant ρ u p implies covered ρ R u p)) .0 h u lu) p lp) g,
-    λ f.
-        all-iff (ρ .users) (λ u. all (ρ .permissions) (λ p. grant ρ u p implies covered ρ R u p)) .1
-        (λ u lu.
-        all-iff (ρ .permissions) (λ p. grant ρ u p implies covered ρ R u p) .1
-        (λ p lp. implies-iff (grant ρ u p) (covered ρ R u p) .1 (λ g. f u p lu lp g))),
+    λ h u p lu lp.
+        let f : (u : ℕ) → u < ρ .users → (p : ℕ) → p < ρ .permissions → So (grant ρ u p) → So (covered ρ R u p) = simp reflect at h in f u lu p lp,
+    λ f. simp reflect (λ u lu p lp. f u p lu lp),
   )
 
   pub spared-iff : (R s : ℕ)
       → So (spared ρ R s) ↔ ((u p : ℕ) → u < ρ .users → p < ρ .permissions → So (grant ρ u p) → So (covered ρ s u p) → So (covered ρ (R ∖ s) u p))
   unfolding spared
   spared-iff R s = (
-    λ h u p lu lp g cs.
-        implies-iff (grant ρ u p and covered ρ s u p) (covered ρ (R ∖ s) u p) .0
-        (all-iff (ρ .permissions) (λ p. grant ρ u p and covered ρ s u p implies covered ρ (R ∖ s) u p) .0
-        (all-iff (ρ .users) (λ u. all (ρ .permissions) (λ p. grant ρ u p and covered ρ s u p implies covered ρ (R ∖ s) u p)) .0 h u lu) p lp)
-        (and-iff (grant ρ u p) (covered ρ s u p) .1 (g, cs)),
-    λ f.
-        all-iff (ρ .users) (λ u. all (ρ .permissions) (λ p. grant ρ u p and covered ρ s u p implies covered ρ (R ∖ s) u p)) .1
-        (λ u lu.
-        all-iff (ρ .permissions) (λ p. grant ρ u p and covered ρ s u p implies covered ρ (R ∖ s) u p) .1
-        (λ p lp.
-        implies-iff (grant ρ u p and covered ρ s u p) (covered ρ (R ∖ s) u p) .1
-        (λ b. let d = and-iff (grant ρ u p) (covered ρ s u p) .0 b in f u p lu lp (d .0) (d .1)))),
+    λ h u p lu lp g c.
+        let f : (u : ℕ) → u < ρ .users → (p : ℕ) → p < ρ .permissions → So (grant ρ u p) × So (covered ρ s u p) → So (covered ρ (R ∖ s) u p) = simp reflect at h in
+        f u lu p lp (g, c),
+    λ f. simp reflect (λ u lu p lp x. f u p lu lp (x .0) (x .1)),
   )
 
   -- strikable, in the paper's own words: "k stands and each grant covered by k is covered by another standing role"
@@ -113,10 +96,8 @@ module _ (ρ : Roles) where
     unfolding senior
     senior-iff k j = (
       λ h.
-          let a = and-iff (has R k and has R j) (properSubset (permissionSet ρ j) (permissionSet ρ k)) .0 h in
-          let b = and-iff (has R k) (has R j) .0 (a .0) in
-          (b .0, b .1, a .1),
-      λ k'. and-iff (has R k and has R j) (properSubset (permissionSet ρ j) (permissionSet ρ k)) .1 (and-iff (has R k) (has R j) .1 (k' .0, k' .1), k' .2),
+          let x : (So (has R k) × So (has R j)) × So (properSubset (permissionSet ρ j) (permissionSet ρ k)) = simp reflect at h in (x .0 .0, x .0 .1, x .1),
+      λ f. simp reflect ((f .0, f .1), f .2),
     )
 
     pub immediate-iff : (k j : ℕ)
@@ -125,14 +106,9 @@ module _ (ρ : Roles) where
     unfolding immediatelySenior
     immediate-iff k j = (
       λ h.
-          let a = and-iff (senior ρ R k j) (none (candidateCount ρ) (λ i. senior ρ R k i and senior ρ R i j)) .0 h in
-          (a .0, λ i l p q. none-is (candidateCount ρ) (λ i. senior ρ R k i and senior ρ R i j) (a .1) i l (and-iff (senior ρ R k i) (senior ρ R i j) .1 (p, q))),
-      λ f.
-          and-iff (senior ρ R k j) (none (candidateCount ρ) (λ i. senior ρ R k i and senior ρ R i j)) .1 (
-            f .0,
-            none-of (candidateCount ρ) (λ i. senior ρ R k i and senior ρ R i j)
-                (λ i l b. let d = and-iff (senior ρ R k i) (senior ρ R i j) .0 b in f .1 i l (d .0) (d .1)),
-          ),
+          let x : So (senior ρ R k j) × ((i : ℕ) → i < candidateCount ρ → So (senior ρ R k i) × So (senior ρ R i j) → ⊥) = simp reflect at h in
+          (x .0, λ i l p q. x .1 i l (p, q)),
+      λ f. simp reflect (f .0, λ i l x. f .1 i l (x .0) (x .1)),
     )
 
     pub junior-iff : (k j : ℕ) → So (has (immediateJuniors ρ R k) j) ↔ ((j < candidateCount ρ) × So (immediatelySenior ρ R k j))
@@ -145,28 +121,7 @@ module _ (ρ : Roles) where
         ↔ ((p < ρ .permissions) × So (has R k) × So (has (permissionSet ρ k) p)
         × ((j : ℕ) → j < candidateCount ρ → So (senior ρ R k j) → So (has (permissionSet ρ j) p) → ⊥))
     unfolding directPermissions
-    permission-iff k p =
-        let test : ℕ → Bool = λ p. has R k and has (permissionSet ρ k) p and none (candidateCount ρ) (λ j. senior ρ R k j and has (permissionSet ρ j) p) in (
-          λ h.
-              let a = collect-iff (ρ .permissions) test p .0 h in
-              let b = and-iff (has R k and has (permissionSet ρ k) p) (none (candidateCount ρ) (λ j. senior ρ R k j and has (permissionSet ρ j) p)) .0 (a .1) in
-              let d = and-iff (has R k) (has (permissionSet ρ k) p) .0 (b .0) in (
-                a .0,
-                d .0,
-                d .1,
-                λ j l s t.
-                    none-is (candidateCount ρ) (λ j. senior ρ R k j and has (permissionSet ρ j) p) (b .1) j l (and-iff (senior ρ R k j) (has (permissionSet ρ j) p) .1 (s, t)),
-              ),
-          λ f.
-              collect-iff (ρ .permissions) test p .1 (
-                f .0,
-                and-iff (has R k and has (permissionSet ρ k) p) (none (candidateCount ρ) (λ j. senior ρ R k j and has (permissionSet ρ j) p)) .1 (
-                  and-iff (has R k) (has (permissionSet ρ k) p) .1 (f .1, f .2),
-                  none-of (candidateCount ρ) (λ j. senior ρ R k j and has (permissionSet ρ j) p)
-                      (λ j l b. let d = and-iff (senior ρ R k j) (has (permissionSet ρ j) p) .0 b in f .3 j l (d .0) (d .1)),
-                ),
-              ),
-        )
+    permission-iff k p = direct-iff (ρ .permissions) (candidateCount ρ) R (λ j k. senior ρ R k j) (permissionSet ρ) k p
 
     -- "A(k) less A of all its seniors"
     pub member-iff : (k u : ℕ)
@@ -174,25 +129,4 @@ module _ (ρ : Roles) where
         ↔ ((u < ρ .users) × So (has R k) × So (has (authorisedUsers ρ k) u)
         × ((i : ℕ) → i < candidateCount ρ → So (senior ρ R i k) → So (has (authorisedUsers ρ i) u) → ⊥))
     unfolding directMembers
-    member-iff k u =
-        let test : ℕ → Bool = λ u. has R k and has (authorisedUsers ρ k) u and none (candidateCount ρ) (λ i. senior ρ R i k and has (authorisedUsers ρ i) u) in (
-          λ h.
-              let a = collect-iff (ρ .users) test u .0 h in
-              let b = and-iff (has R k and has (authorisedUsers ρ k) u) (none (candidateCount ρ) (λ i. senior ρ R i k and has (authorisedUsers ρ i) u)) .0 (a .1) in
-              let d = and-iff (has R k) (has (authorisedUsers ρ k) u) .0 (b .0) in (
-                a .0,
-                d .0,
-                d .1,
-                λ i l s t.
-                    none-is (candidateCount ρ) (λ i. senior ρ R i k and has (authorisedUsers ρ i) u) (b .1) i l (and-iff (senior ρ R i k) (has (authorisedUsers ρ i) u) .1 (s, t)),
-              ),
-          λ f.
-              collect-iff (ρ .users) test u .1 (
-                f .0,
-                and-iff (has R k and has (authorisedUsers ρ k) u) (none (candidateCount ρ) (λ i. senior ρ R i k and has (authorisedUsers ρ i) u)) .1 (
-                  and-iff (has R k) (has (authorisedUsers ρ k) u) .1 (f .1, f .2),
-                  none-of (candidateCount ρ) (λ i. senior ρ R i k and has (authorisedUsers ρ i) u)
-                      (λ i l b. let d = and-iff (senior ρ R i k) (has (authorisedUsers ρ i) u) .0 b in f .3 i l (d .0) (d .1)),
-                ),
-              ),
-        )
+    member-iff k u = direct-iff (ρ .users) (candidateCount ρ) R (senior ρ R) (authorisedUsers ρ) k u

@@ -8,7 +8,7 @@ use mathlib.Core.List.{List}
 use Prim.Native.Nat.{ℕ, zero, suc, _+_, _-_, _*_, _/_, _%_, _^_, _<_, _≤_}
 use native.Mathlib.Nat.{lt-of-lt-of-le}
 use native.Mathlib.Omega.{arith}
-use lib.Dec.{eqb, leb, ltb}
+use lib.Dec.{eqb, ltb}
 use lib.Pow.{pow-mono, pow-pos}
 use lib.ListN.{length, getD, List·getD-eq-default}
 use lib.Seq.{ext-getD}
@@ -19,12 +19,13 @@ use Rattle.sets.specs.Words.{word}
 use Rattle.sets.proofs.Items.{digit, has-above}
 use Rattle.sets.proofs.Order.{collect-lt}
 use Rattle.sets.proofs.Words.{word-lt}
-use Rattle.sets.proofs.Truth.{So-not, and-iff, eqb-iff, ltb-iff, leb-iff, all-iff, if-true, if-false, either}
+use Rattle.sets.proofs.Truth.{So-not, and-iff, eqb-iff, all-iff, if-true, if-false, either, reflect}
 use Rattle.model.specs.Lists.{setAt, rowsAt}
-use Rattle.model.specs.Hierarchy.{Roles, candidateCount, immediatelySenior, permissionSet, immediateJuniors, directPermissions, directMembers, building}
+use Rattle.model.specs.Hierarchy.{Roles, candidateCount, permissionSet, authorisedUsers, senior, immediatelySenior, immediateJuniors, directPermissions, directMembers, building}
 use Rattle.model.specs.Coverage.{allCovered}
-use Rattle.model.specs.State.{State, rolesOf, withinLimits, rowsWithin}
-use Rattle.model.specs.Record.{recordLength, crewStart, setsStart, permissionsStart, membersStart, juniorsStart, headerWord, regionWord, wordAt, built, stateOf, rowsOf, stateSound, sound, Limits}
+use Rattle.model.specs.State.{State, mostUsers, mostPermissions, mostCandidates, rolesOf, withinLimits, rowsWithin}
+use Rattle.model.specs.Record.{recordLength, crewStart, setsStart, permissionsStart, membersStart, juniorsStart, headerWord, regionWord, wordAt, built, stateOf, roleRowsOf, stateSound, sound, Limits}
+use Rattle.model.proofs.Direct.{direct-lt}
 use Rattle.model.proofs.Building.{absent-juniors, absent-permissions, absent-members}
 use Rattle.model.proofs.Lists.{length-tabulate, getD-tabulate, tabulate-is, setAt-words, length-rowsAt, getD-rowsAt}
 
@@ -130,77 +131,47 @@ module _ (st : State) where
 
 -- ---- the paper's limits, each by its name
 
-pub withinLimits-iff : (n m : ℕ) → So (withinLimits n m) ↔ ((1 ≤ n) × (n ≤ 128) × (1 ≤ m) × (m ≤ 256))
+pub withinLimits-iff : (n m : ℕ) → So (withinLimits n m) ↔ ((1 ≤ n) × (n ≤ mostUsers) × (1 ≤ m) × (m ≤ mostPermissions))
 unfolding withinLimits
 withinLimits-iff n m = (
   λ h.
-      let a = and-iff (leb 1 n and leb n 128 and leb 1 m) (leb m 256) .0 h in
-      let b = and-iff (leb 1 n and leb n 128) (leb 1 m) .0 (a .0) in
-      let c = and-iff (leb 1 n) (leb n 128) .0 (b .0) in
-      (leb-iff 1 n .0 (c .0), leb-iff n 128 .0 (c .1), leb-iff 1 m .0 (b .1), leb-iff m 256 .0 (a .1)),
-  λ f.
-      and-iff (leb 1 n and leb n 128 and leb 1 m) (leb m 256) .1 (
-        and-iff (leb 1 n and leb n 128) (leb 1 m) .1
-            (and-iff (leb 1 n) (leb n 128) .1 (leb-iff 1 n .1 (f .0), leb-iff n 128 .1 (f .1)), leb-iff 1 m .1 (f .2)),
-        leb-iff m 256 .1 (f .3),
-      ),
+      let x : (((1 ≤ n) × (n ≤ mostUsers)) × (1 ≤ m)) × (m ≤ mostPermissions) = simp reflect at h in (x .0 .0 .0, x .0 .0 .1, x .0 .1, x .1),
+  λ f. simp reflect (((f .0, f .1), f .2), f .3),
 )
 
 pub rowsWithin-iff : (m : ℕ) (rows : List ℕ) → So (rowsWithin m rows) ↔ ((u : ℕ) → u < length rows → getD rows u 0 < 2 ^ m)
 unfolding rowsWithin
-rowsWithin-iff m rows = (
-  λ h u l. ltb-iff (getD rows u 0) (2 ^ m) .0 (all-iff (length rows) (λ u. ltb (getD rows u 0) (2 ^ m)) .0 h u l),
-  λ f. all-iff (length rows) (λ u. ltb (getD rows u 0) (2 ^ m)) .1 (λ u l. ltb-iff (getD rows u 0) (2 ^ m) .1 (f u l)),
-)
+rowsWithin-iff m rows = (λ h. simp reflect at h, λ f. simp reflect f)
 
 pub stateSound-iff : (st : State) → So (stateSound st) ↔ (Limits st × So (allCovered (rolesOf st) (st .standing)))
 unfolding stateSound
 stateSound-iff st =
     let n = st .users in
     let m = st .permissions in
-    let c = candidateCount (rolesOf st) in
-    let t1 = withinLimits n m in
-    let t2 = eqb (length (st .rows)) n in
-    let t3 = rowsWithin m (st .rows) in
-    let t4 = leb c 128 in
-    let t5 = ltb (st .standing) (2 ^ c) in
-    let t6 = allCovered (rolesOf st) (st .standing) in (
+    let c = candidateCount (rolesOf st) in (
       λ h.
-          let a5 = and-iff (t1 and t2 and t3 and t4 and t5) t6 .0 h in
-          let a4 = and-iff (t1 and t2 and t3 and t4) t5 .0 (a5 .0) in
-          let a3 = and-iff (t1 and t2 and t3) t4 .0 (a4 .0) in
-          let a2 = and-iff (t1 and t2) t3 .0 (a3 .0) in
-          let a1 = and-iff t1 t2 .0 (a2 .0) in
-          let w = withinLimits-iff n m .0 (a1 .0) in
-          let e : length (st .rows) ≡ n = eqb-iff (length (st .rows)) n .0 (a1 .1) in (
+          let x : (((((So (withinLimits n m) × (length (st .rows) ≡ n)) × So (rowsWithin m (st .rows))) × (c ≤ mostCandidates)) × (st .standing < 2 ^ c))
+          × So (allCovered (rolesOf st) (st .standing))) =
+          simp reflect at h in
+          let w = withinLimits-iff n m .0 (x .0 .0 .0 .0 .0) in
+          let e : length (st .rows) ≡ n = x .0 .0 .0 .0 .1 in (
             record {
               users-some = w .0;
               users-most = w .1;
               permissions-some = w .2;
               permissions-most = w .3;
               rows-count = e;
-              rows-below = λ u l. rowsWithin-iff m (st .rows) .0 (a2 .1) u (rw e l);
-              candidates-most = leb-iff c 128 .0 (a3 .1);
-              standing-below = ltb-iff (st .standing) (2 ^ c) .0 (a4 .1);
+              rows-below = λ u l. rowsWithin-iff m (st .rows) .0 (x .0 .0 .0 .1) u (rw e l);
+              candidates-most = x .0 .0 .1;
+              standing-below = x .0 .1;
             },
-            a5 .1,
+            x .1,
           ),
       λ f.
           let l = f .0 in
-          and-iff (t1 and t2 and t3 and t4 and t5) t6 .1 (
-            and-iff (t1 and t2 and t3 and t4) t5 .1 (
-              and-iff (t1 and t2 and t3) t4 .1 (
-                and-iff (t1 and t2) t3 .1 (
-                  and-iff t1 t2 .1
-                      (withinLimits-iff n m .1 (l .users-some, l .users-most, l .permissions-some, l .permissions-most), eqb-iff (length (st .rows)) n .1 (l .rows-count)),
-                  rowsWithin-iff m (st .rows) .1 (λ u b. l .rows-below u (rw (l .rows-count) at b)),
-                ),
-                leb-iff c 128 .1 (l .candidates-most),
-              ),
-              ltb-iff (st .standing) (2 ^ c) .1 (l .standing-below),
-            ),
-            f .1,
-          ),
+          let kept = withinLimits-iff n m .1 (l .users-some, l .users-most, l .permissions-some, l .permissions-most) in
+          let rows = rowsWithin-iff m (st .rows) .1 (λ u b. l .rows-below u (rw (l .rows-count) at b)) in
+          simp reflect (((((kept, l .rows-count), rows), l .candidates-most), l .standing-below), f .1),
     )
 
 -- "A record is sound when", part by part
@@ -237,11 +208,11 @@ immediateJuniors-lt ρ R k = collect-lt (candidateCount ρ) (λ j. immediatelySe
 
 pub directPermissions-lt : (ρ : Roles) (R k : ℕ) → directPermissions ρ R k < 2 ^ ρ .permissions
 unfolding directPermissions
-directPermissions-lt ρ R k = collect-lt (ρ .permissions) _
+directPermissions-lt ρ R = direct-lt (ρ .permissions) (candidateCount ρ) R (λ j k. senior ρ R k j) (permissionSet ρ)
 
 pub directMembers-lt : (ρ : Roles) (R k : ℕ) → directMembers ρ R k < 2 ^ ρ .users
 unfolding directMembers
-directMembers-lt ρ R k = collect-lt (ρ .users) _
+directMembers-lt ρ R = direct-lt (ρ .users) (candidateCount ρ) R (senior ρ R) (authorisedUsers ρ)
 
 -- ---- a record reads back as the state that it was built from
 
@@ -310,8 +281,8 @@ module _ (st : State) (lim : Limits st) where
       λ i. record { users = read-users i; permissions = read-permissions i; rows = rows-back i; standing = read-standing i }
 
   -- and its rows as the building
-  pub rows-back : rowsOf (built st) ≡ building (rolesOf st) (st .standing)
-  unfolding rowsOf building
+  pub rows-back : roleRowsOf (built st) ≡ building (rolesOf st) (st .standing)
+  unfolding roleRowsOf building
   rows-back =
       let ρ = rolesOf st in
       let R = st .standing in

@@ -1,6 +1,6 @@
 -- What a role that comes back takes from its neighbours: the rows with k, from those without it.
 -- Assumes nothing.
-use mathlib.Core.Path.{_≡_, refl, sym, _∙_, ap, subst}
+use mathlib.Core.Path.{_≡_, refl, sym, ap, subst}
 use mathlib.Core.Bool.{false, So}
 use mathlib.Core.Logic.{_≢_, _⊎_, ⊎-elim}
 use Prim.Native.Nat.{ℕ, _+_, _<_}
@@ -12,14 +12,18 @@ use Rattle.sets.proofs.Items.{same-set}
 use Rattle.sets.proofs.Order.{∪-iff, ∖-iff, single-iff}
 use Rattle.sets.proofs.Counts.{ones-∖, ones-with}
 use Rattle.model.specs.Hierarchy.{Roles, candidateCount, permissionSet, authorisedUsers, senior, immediatelySenior, immediateJuniors, directPermissions, directMembers}
-use Rattle.model.proofs.Reading.{Ordered, immediate-iff, junior-iff, permission-iff, member-iff}
-use Rattle.model.proofs.Building.{stands-below, senior-differs}
-use Rattle.model.proofs.Changes.{stands-other, senior-other, immediate-stays, immediate-new}
+use Rattle.model.proofs.Reading.{Ordered, immediate-iff, junior-iff}
+use Rattle.model.proofs.Building.{stands-below, senior-differs, juniors-side, seniors-side}
+use Rattle.model.proofs.Direct.{direct-counted}
+use Rattle.model.proofs.Changes.{senior-other, senior-left, junior-left, immediate-stays, immediate-new}
 
 -- S is the standing set with k
 module _ (ρ : Roles) (S : ℕ) (o : Ordered ρ S) (k : ℕ) (here : So (has S k)) where
   below : k < candidateCount ρ
   below = stands-below ρ S o k here
+
+  other : (i : ℕ) → i ≢ k → So (has (single k) i) → ⊥
+  other i d x = d (sym (single-iff k i .0 x))
 
   -- an immediate senior's links to the juniors of k go, and one to k comes
   module _ (i : ℕ) (h : So (immediatelySenior ρ S i k)) where
@@ -38,7 +42,7 @@ module _ (ρ : Roles) (S : ℕ) (o : Ordered ρ S) (k : ℕ) (here : So (has S k
         (λ d.
         _⊎_.inl
         (∖-iff old own j .1 (
-          junior-iff ρ (S ∖ single k) i j .1 (a .0, immediate-stays ρ S o k i j (senior-differs ρ S o i k s) d (a .1)),
+          junior-iff ρ (S ∖ single k) i j .1 (a .0, immediate-stays ρ S o (single k) i j (other i (senior-differs ρ S o i k s)) (other j d) (a .1)),
           λ x.
               let b = junior-iff ρ S k j .0 x in
               immediate-iff ρ S i j .0 (a .1) .1 k below s (immediate-iff ρ S k j .0 (b .1) .0),
@@ -48,7 +52,7 @@ module _ (ρ : Roles) (S : ℕ) (o : Ordered ρ S) (k : ℕ) (here : So (has S k
         (λ x.
         let d = ∖-iff old own j .0 x in
         let a = junior-iff ρ (S ∖ single k) i j .0 (d .0) in
-        ⊎-elim (λ e. junior-iff ρ S i j .1 (a .0, e)) (λ w. absurd (d .1 (junior-iff ρ S k j .1 (a .0, w .1)))) (immediate-new ρ S o k i j (a .1)))
+        ⊎-elim (λ e. junior-iff ρ S i j .1 (a .0, e)) (λ w. let e : k ≡ w .1 .0 = single-iff k (w .1 .0) .0 (w .1 .1) in absurd (d .1 (junior-iff ρ S k j .1 (a .0, rw e (w .1 .2))))) (immediate-new ρ S o (single k) i j (a .1)))
         (λ x. subst (λ (z : ℕ). So (has (immediateJuniors ρ S i) z)) (single-iff k j .0 x) (junior-iff ρ S i k .1 (below, h)))
         (∪-iff (old ∖ own) (single k) j .0 t))
 
@@ -66,60 +70,17 @@ module _ (ρ : Roles) (S : ℕ) (o : Ordered ρ S) (k : ℕ) (here : So (has S k
         let c = ones-∖ old own in
         omega arith
 
-  -- a senior's direct permissions that are of k too are no longer direct
-  module _ (i : ℕ) (s : So (senior ρ S i k)) where
-    pub permissions-restored : directPermissions ρ S i ≡ directPermissions ρ (S ∖ single k) i ∖ permissionSet ρ k
-    permissions-restored =
-        let old = directPermissions ρ (S ∖ single k) i in
-        let d = senior-differs ρ S o i k s in
-        same-set (directPermissions ρ S i) (old ∖ permissionSet ρ k)
-        (λ p t.
-        let a = permission-iff ρ S i p .0 t in
-        ∖-iff old (permissionSet ρ k) p .1 (
-          permission-iff ρ (S ∖ single k) i p .1
-              (a .0, stands-other ρ S o k i .1 (a .1, d), a .2, λ j l x q. a .3 j l (senior-other ρ S o k i j .0 x .0) q),
-          λ q. a .3 k below s q,
-        ))
-        (λ p t.
-        let x = ∖-iff old (permissionSet ρ k) p .0 t in
-        let a = permission-iff ρ (S ∖ single k) i p .0 (x .0) in
-        permission-iff ρ S i p .1 (
-          a .0,
-          stands-other ρ S o k i .0 (a .1) .0,
-          a .2,
-          λ j l y q.
-              equal-or j k (λ e. x .1 (subst (λ (z : ℕ). So (has (permissionSet ρ z) p)) e q))
-              (λ dj. a .3 j l (senior-other ρ S o k i j .1 (y, d, dj)) q),
-        ))
+  -- a senior's direct permissions that are of k too are no longer direct, nor a junior's direct members that are users of k too
+  pub permissions-counted : (i : ℕ) → So (senior ρ S i k)
+      → ones (directPermissions ρ S i) + ones (directPermissions ρ (S ∖ single k) i ∩ permissionSet ρ k) ≡ ones (directPermissions ρ (S ∖ single k) i)
+  unfolding directPermissions
+  permissions-counted i s =
+      direct-counted (ρ .permissions) (candidateCount ρ) S (λ j i. senior ρ S i j) (permissionSet ρ) (juniors-side ρ S o) k (λ j i. senior ρ (S ∖ single k) i j)
+      (junior-left ρ S o (single k)) i s
 
-    pub permissions-counted : ones (directPermissions ρ S i) + ones (directPermissions ρ (S ∖ single k) i ∩ permissionSet ρ k) ≡ ones (directPermissions ρ (S ∖ single k) i)
-    permissions-counted = ap (λ (x : ℕ). ones x + ones (directPermissions ρ (S ∖ single k) i ∩ permissionSet ρ k)) permissions-restored ∙ ones-∖ (directPermissions ρ (S ∖ single k) i) (permissionSet ρ k)
-
-  -- a junior's direct members that are users of k too are no longer direct
-  module _ (j : ℕ) (s : So (senior ρ S k j)) where
-    pub members-restored : directMembers ρ S j ≡ directMembers ρ (S ∖ single k) j ∖ authorisedUsers ρ k
-    members-restored =
-        let old = directMembers ρ (S ∖ single k) j in
-        let d : j ≢ k = λ e. senior-differs ρ S o k j s (sym e) in
-        same-set (directMembers ρ S j) (old ∖ authorisedUsers ρ k)
-        (λ u t.
-        let a = member-iff ρ S j u .0 t in
-        ∖-iff old (authorisedUsers ρ k) u .1 (
-          member-iff ρ (S ∖ single k) j u .1
-              (a .0, stands-other ρ S o k j .1 (a .1, d), a .2, λ i l x q. a .3 i l (senior-other ρ S o k i j .0 x .0) q),
-          λ q. a .3 k below s q,
-        ))
-        (λ u t.
-        let x = ∖-iff old (authorisedUsers ρ k) u .0 t in
-        let a = member-iff ρ (S ∖ single k) j u .0 (x .0) in
-        member-iff ρ S j u .1 (
-          a .0,
-          stands-other ρ S o k j .0 (a .1) .0,
-          a .2,
-          λ i l y q.
-              equal-or i k (λ e. x .1 (subst (λ (z : ℕ). So (has (authorisedUsers ρ z) u)) e q))
-              (λ di. a .3 i l (senior-other ρ S o k i j .1 (y, di, d)) q),
-        ))
-
-    pub members-counted : ones (directMembers ρ S j) + ones (directMembers ρ (S ∖ single k) j ∩ authorisedUsers ρ k) ≡ ones (directMembers ρ (S ∖ single k) j)
-    members-counted = ap (λ (x : ℕ). ones x + ones (directMembers ρ (S ∖ single k) j ∩ authorisedUsers ρ k)) members-restored ∙ ones-∖ (directMembers ρ (S ∖ single k) j) (authorisedUsers ρ k)
+  pub members-counted : (j : ℕ) → So (senior ρ S k j)
+      → ones (directMembers ρ S j) + ones (directMembers ρ (S ∖ single k) j ∩ authorisedUsers ρ k) ≡ ones (directMembers ρ (S ∖ single k) j)
+  unfolding directMembers
+  members-counted j s =
+      direct-counted (ρ .users) (candidateCount ρ) S (senior ρ S) (authorisedUsers ρ) (seniors-side ρ S o) k (senior ρ (S ∖ single k))
+      (senior-left ρ S o (single k)) j s

@@ -16,7 +16,7 @@ use Rattle.sets.proofs.Order.{∪-iff, ∪-lt, single-lt, subset-iff, subset-re
 use Rattle.sets.proofs.Counts.{ones-with}
 use Rattle.model.specs.Hierarchy.{Roles, candidateCount}
 use Rattle.model.specs.Quality.{Weights, quality}
-use Rattle.model.specs.Machine.{Run, kept, restored, tryRestore, reviewTo, reviewPasses, reviewed, begin}
+use Rattle.model.specs.Machine.{Run, afterStay, afterRestore, tryRestore, reviewTo, reviewPasses, reviewed, begin}
 
 -- S comes from R by n restorations, each accepted
 pub data Restores (ρ : Roles) (R : ℕ) : ℕ → ℕ → Type 0 where
@@ -31,19 +31,19 @@ module _ (ρ : Roles) (w : Weights) where
 
   pub try-one {ℓ} : {C : Type ℓ} (k : ℕ) (r : Run)
       → (So (has (r .standing) k) → tryRestore ρ w k r ≡ r → C)
-      → (has (r .standing) k ≡ false → after (r .standing) k < r .reference → tryRestore ρ w k r ≡ restored k (after (r .standing) k) r → C)
-      → (has (r .standing) k ≡ false → r .reference ≤ after (r .standing) k → tryRestore ρ w k r ≡ kept r → C)
+      → (has (r .standing) k ≡ false → after (r .standing) k < r .reference → tryRestore ρ w k r ≡ afterRestore k (after (r .standing) k) r → C)
+      → (has (r .standing) k ≡ false → r .reference ≤ after (r .standing) k → tryRestore ρ w k r ≡ afterStay r → C)
       → C
   unfolding tryRestore
   try-one k r stands restores stays =
       let s = has (r .standing) k in
       let q' = after (r .standing) k in
-      let rest = if ltb q' (r .reference) then restored k q' r else kept r in
+      let rest = if ltb q' (r .reference) then afterRestore k q' r else afterStay r in
       by-test s (λ e. stands e (if-true s r rest e))
       (λ e.
       let skip = if-false s r rest e in
-      by-test (ltb q' (r .reference)) (λ b. restores e (ltb-iff q' (r .reference) .0 b) (skip ∙ if-true (ltb q' (r .reference)) (restored k q' r) (kept r) b))
-      (λ b. stays e (ltb-false q' (r .reference) b) (skip ∙ if-false (ltb q' (r .reference)) (restored k q' r) (kept r) b)))
+      by-test (ltb q' (r .reference)) (λ b. restores e (ltb-iff q' (r .reference) .0 b) (skip ∙ if-true (ltb q' (r .reference)) (afterRestore k q' r) (afterStay r) b))
+      (λ b. stays e (ltb-false q' (r .reference) b) (skip ∙ if-false (ltb q' (r .reference)) (afterRestore k q' r) (afterStay r) b)))
 
   -- ---- what holds all along, from the standing set R on
 
@@ -55,7 +55,7 @@ module _ (ρ : Roles) (w : Weights) where
     pub restores : Restores ρ R (r .changed) (r .standing)
 
   pub going-on : (R k : ℕ) (r : Run) → k < candidateCount ρ → Going R r → Going R (tryRestore ρ w k r)
-  unfolding restored kept
+  unfolding afterRestore afterStay
   going-on R k r lk g =
       try-one k r (λ _ e. rw e g)
       (λ a _ e.
@@ -79,11 +79,11 @@ module _ (ρ : Roles) (w : Weights) where
       }))
 
   pub never-fewer : (k : ℕ) (r : Run) → r .changed ≤ tryRestore ρ w k r .changed
-  unfolding restored kept
+  unfolding afterRestore afterStay
   never-fewer k r = try-one k r (λ _ e. rw e (le-refl (r .changed))) (λ _ _ e. rw e (omega arith)) (λ _ _ e. rw e (le-refl (r .changed)))
 
   pub one-examined : (k : ℕ) (r : Run) → tryRestore ρ w k r .examined ≤ suc (r .examined)
-  unfolding restored kept
+  unfolding afterRestore afterStay
   one-examined k r = try-one k r (λ _ e. rw e (omega arith)) (λ _ _ e. rw e (omega arith)) (λ _ _ e. rw e (omega arith))
 
   -- ---- the candidates below n, by growing number
@@ -107,7 +107,7 @@ module _ (ρ : Roles) (w : Weights) where
   pub none-restored : (n : ℕ) (r : Run) → reviewTo ρ w n r .changed ≡ r .changed
       → (reviewTo ρ w n r .standing ≡ r .standing) × (reviewTo ρ w n r .reference ≡ r .reference)
       × ((k : ℕ) → k < n → has (r .standing) k ≡ false → r .reference ≤ after (r .standing) k)
-  unfolding reviewTo restored kept
+  unfolding reviewTo afterRestore afterStay
   none-restored zero r same = (refl, refl, λ k l. absurd (not-suc-le-zero l))
   none-restored (suc n) r same =
       let before = reviewTo ρ w n r in

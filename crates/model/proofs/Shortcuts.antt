@@ -237,7 +237,7 @@ module _ (ρ : Roles) (R : ℕ) (o : Ordered ρ R) where
     λ h.
         let w = covered-iff ρ R u p .0 h in
         let d = covers-iff ρ (w .0) u p .0 (w .3) in
-        let i = topmost ρ R o (candidateCount ρ) (w .0) u (omega arith) (w .2) (d .0) in
+        let i = topmost ρ R o (w .0) u (w .2) (d .0) in
         (i .0, i .1, ⊎-elim (λ (e : i .0 ≡ w .0). rw e (d .1)) (λ s. senior-permission ρ R o (i .0) (w .0) p s (d .1)) (i .2)),
     λ w.
         let m = member-iff ρ R (w .0) u .0 (w .1) in

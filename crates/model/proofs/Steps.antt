@@ -2,29 +2,29 @@
 -- a review a list of accepted restorations, with the same states.
 -- Assumes nothing.
 use mathlib.Core.Path.{_≡_, refl, sym, _∙_, ap}
-use mathlib.Core.Bool.{Bool, true, false, So}
+use mathlib.Core.Bool.{true, So}
 use mathlib.Core.Logic.{_≢_}
 use mathlib.Core.List.{List, [], _∷_, _++_, map}
 use Prim.Native.Nat.{ℕ, zero, suc, _+_, _<_, _≤_, _^_}
 use native.Mathlib.Omega.{arith}
-use lib.Dec.{eqb, ltb}
+use lib.Dec.{eqb}
 use lib.ListN.{length, getD, length-append}
-use Rattle.sets.specs.Truth.{isnt, if_then_else_}
-use Rattle.sets.specs.Sets.{has, _∪_, _∖_, single, collect}
-use Rattle.sets.proofs.Truth.{by-test, So-not, not-So, isnt-iff, eqb-iff, ltb-iff, if-true, if-false}
+use Rattle.sets.specs.Sets.{_∪_, _∖_, single, collect}
+use Rattle.sets.proofs.Truth.{by-test, So-not, not-So, eqb-iff, if-true, if-false}
 use Rattle.sets.proofs.Items.{has-zero}
 use Rattle.sets.proofs.Order.{subset-refl, ∖-lt, ∪-lt, single-lt, collect-lt, collect-iff}
 use Rattle.model.specs.Candidates.{candidates}
 use Rattle.model.specs.Hierarchy.{Roles, candidateCount, permissionSet}
-use Rattle.model.specs.Coverage.{grant, allCovered, strikable}
-use Rattle.model.specs.Quality.{Weights}
+use Rattle.model.specs.Coverage.{grant, allCovered}
+use Rattle.model.specs.Quality.{Weights, Tolerance}
 use Rattle.model.specs.State.{State, rolesOf, standingNow, fresh}
-use Rattle.model.specs.Machine.{Call, Tolerance, Outcome, answer, refusal, accepted, step, stateAfter, eliminated, reviewed}
+use Rattle.model.specs.Machine.{Call, Outcome, reply, refusal, accepted, step, stateAfter, eliminated, reviewed}
 use Rattle.model.specs.Machine.Call.{strike, restore, eliminate, review}
 use Rattle.model.proofs.Candidates.{proper-lower, row-candidate}
 use Rattle.model.proofs.Reading.{Ordered, user-iff, covers-iff, covered-iff, allCovered-iff, strikable-stands}
-use Rattle.model.proofs.Changes.{struck-covered, restored-covered}
+use Rattle.model.proofs.Spared.{struck-covered, restored-covered}
 use Rattle.model.specs.Record.{Limits}
+use Rattle.model.proofs.Refusals.{strike-iff, restore-iff}
 use Rattle.model.proofs.Elimination.{Strikes, eliminated-going}
 use Rattle.model.proofs.Review.{Restores, reviewed-going}
 
@@ -67,64 +67,21 @@ now-same st = refl
 -- ---- a step is refused, or accepted
 
 pub step-accepted : (st : State) (call : Call) → refusal st call ≡ 0
-    → step st call ≡ record { given = answer 0 (accepted st call .changed) (accepted st call .examined); state = standingNow st (accepted st call .standing) }
+    → step st call ≡ record { replied = reply 0 (accepted st call .changed) (accepted st call .examined); state = standingNow st (accepted st call .standing) }
 unfolding step
 step-accepted st call e = if-true (eqb (refusal st call) 0) _ _ (eqb-iff (refusal st call) 0 .1 e)
 
-pub step-refused : (st : State) (call : Call) → refusal st call ≢ 0 → step st call ≡ record { given = answer (refusal st call) 0 0; state = st }
+pub step-refused : (st : State) (call : Call) → refusal st call ≢ 0 → step st call ≡ record { replied = reply (refusal st call) 0 0; state = st }
 unfolding step
 step-refused st call d = if-false (eqb (refusal st call) 0) _ _ (not-So (eqb (refusal st call) 0) (λ h. d (eqb-iff (refusal st call) 0 .0 h)))
 
 -- which way a step goes is told by its answer
-pub step-code : (st : State) (call : Call) → step st call .given .code ≡ refusal st call
-unfolding answer
+pub step-code : (st : State) (call : Call) → step st call .replied .code ≡ refusal st call
+unfolding reply
 step-code st call =
     by-test (eqb (refusal st call) 0)
     (λ h. let e = eqb-iff (refusal st call) 0 .0 h in rw (step-accepted st call e) (sym e))
     (λ h. rw (step-refused st call (λ e. So-not h (eqb-iff (refusal st call) 0 .1 e))) refl)
-
--- a test of a refusal that did not strike, and the tests behind it
-passed : (t : Bool) (n rest : ℕ) → n ≢ 0 → (if isnt t then n else rest) ≡ 0 → So t × (rest ≡ 0)
-passed t n rest d e =
-    by-test t (λ h. (h, sym (if-false (isnt t) n rest (not-So (isnt t) (λ x. isnt-iff t .0 x h))) ∙ e))
-    (λ h. absurd (d (sym (if-true (isnt t) n rest (isnt-iff t .1 (So-not h))) ∙ e)))
-
-refused-by : (t : Bool) (n : ℕ) → n ≢ 0 → (if t then n else 0) ≡ 0 → t ≡ false
-refused-by t n d e = by-test t (λ h. absurd (d (sym (if-true t n 0 h) ∙ e))) (λ h. h)
-
-pub strike-accepted : (st : State) (k : ℕ) → refusal st (strike k) ≡ 0
-    → (k < candidateCount (rolesOf st)) × So (has (st .standing) k) × So (strikable (rolesOf st) (st .standing) k)
-unfolding refusal
-strike-accepted st k e =
-    let c = candidateCount (rolesOf st) in
-    let a = passed (ltb k c) 6 _ (λ x. let z : 6 ≡ 0 = x in let w : ⊥ = omega arith in w) e in
-    let b = passed (has (st .standing) k) 7 _ (λ x. let z : 7 ≡ 0 = x in let w : ⊥ = omega arith in w) (a .1) in
-    let d = passed (strikable (rolesOf st) (st .standing) k) 8 0 (λ x. let z : 8 ≡ 0 = x in let w : ⊥ = omega arith in w) (b .1) in
-    (ltb-iff k c .0 (a .0), b .0, d .0)
-
-pub restore-accepted : (st : State) (k : ℕ) → refusal st (restore k) ≡ 0 → (k < candidateCount (rolesOf st)) × (has (st .standing) k ≡ false)
-unfolding refusal
-restore-accepted st k e =
-    let c = candidateCount (rolesOf st) in
-    let a = passed (ltb k c) 6 _ (λ x. let z : 6 ≡ 0 = x in let w : ⊥ = omega arith in w) e in
-    (ltb-iff k c .0 (a .0), refused-by (has (st .standing) k) 7 (λ x. let z : 7 ≡ 0 = x in let w : ⊥ = omega arith in w) (a .1))
-
--- and the other way round
-pub strike-accepts : (st : State) (k : ℕ) → k < candidateCount (rolesOf st) → So (has (st .standing) k) → So (strikable (rolesOf st) (st .standing) k)
-    → refusal st (strike k) ≡ 0
-unfolding refusal
-strike-accepts st k l h s =
-    let c = candidateCount (rolesOf st) in
-    if-false (isnt (ltb k c)) 6 _ (not-So (isnt (ltb k c)) (λ x. isnt-iff (ltb k c) .0 x (ltb-iff k c .1 l)))
-    ∙ if-false (isnt (has (st .standing) k)) 7 _ (not-So (isnt (has (st .standing) k)) (λ x. isnt-iff (has (st .standing) k) .0 x h))
-    ∙ if-false (isnt (strikable (rolesOf st) (st .standing) k)) 8 0
-    (not-So (isnt (strikable (rolesOf st) (st .standing) k)) (λ x. isnt-iff (strikable (rolesOf st) (st .standing) k) .0 x s))
-
-pub restore-accepts : (st : State) (k : ℕ) → k < candidateCount (rolesOf st) → has (st .standing) k ≡ false → refusal st (restore k) ≡ 0
-unfolding refusal
-restore-accepts st k l h =
-    let c = candidateCount (rolesOf st) in
-    if-false (isnt (ltb k c)) 6 _ (not-So (isnt (ltb k c)) (λ x. isnt-iff (ltb k c) .0 x (ltb-iff k c .1 l))) ∙ if-false (has (st .standing) k) 7 0 h
 
 -- ---- every state that is reached is within the limits and covers each grant
 
@@ -138,23 +95,23 @@ fit-now st R f b all = record { limits = limits-now st R (f .limits) b; covers-a
 pub strikes-covered : (ρ : Roles) (R n S : ℕ) → Strikes ρ R n S → So (allCovered ρ R) → So (allCovered ρ S)
 strikes-covered ρ R zero S Strikes.none all = all
 strikes-covered ρ R (suc n) S (Strikes.one-more {S = T} k _ m lk s e) all =
-    rw e (struck-covered ρ T k lk s (strikes-covered ρ R n T m all))
+    rw e (struck-covered ρ T k s (strikes-covered ρ R n T m all))
 
 pub restores-covered : (ρ : Roles) (R n S : ℕ) → Restores ρ R n S → So (allCovered ρ R) → So (allCovered ρ S)
 restores-covered ρ R zero S Restores.none all = all
-restores-covered ρ R (suc n) S (Restores.one-more {S = T} k _ m lk a e) all = rw e (restored-covered ρ T k (restores-covered ρ R n T m all))
+restores-covered ρ R (suc n) S (Restores.one-more {S = T} k _ m lk a e) all = rw e (restored-covered ρ T (single k) (restores-covered ρ R n T m all))
 
 accepted-fit : (st : State) (call : Call) → refusal st call ≡ 0 → Fit st → Fit (standingNow st (accepted st call .standing))
 unfolding accepted
 accepted-fit st (strike k) e f =
-    let a = strike-accepted st k e in
+    let a = strike-iff st k .0 e in
     fit-now st (st .standing ∖ single k) f (∖-lt (candidateCount (rolesOf st)) (st .standing) (single k) (f .limits .standing-below))
-    (struck-covered (rolesOf st) (st .standing) k (a .0) (a .2) (f .covers-all))
+    (struck-covered (rolesOf st) (st .standing) k (a .2) (f .covers-all))
 accepted-fit st (restore k) e f =
-    let a = restore-accepted st k e in
+    let a = restore-iff st k .0 e in
     fit-now st (st .standing ∪ single k) f
     (∪-lt (candidateCount (rolesOf st)) (st .standing) (single k) (f .limits .standing-below) (single-lt (candidateCount (rolesOf st)) k (a .0)))
-    (restored-covered (rolesOf st) (st .standing) k (f .covers-all))
+    (restored-covered (rolesOf st) (st .standing) (single k) (f .covers-all))
 accepted-fit st (eliminate w t) e f =
     let g = eliminated-going (rolesOf st) w t (st .standing) (f .limits .standing-below) in
     fit-now st (eliminated (rolesOf st) w t (st .standing) .standing) f (g .below)
@@ -243,7 +200,8 @@ strikes-made st zero S Strikes.none = rw (now-same st) (made-none st strike)
 strikes-made st (suc n) S (Strikes.one-more {S = T} k _ m lk s e) =
     let mid = standingNow st T in
     let ok : refusal mid (strike k) ≡ 0 =
-    strike-accepts mid k (rw (roles-now st T) lk) (rw (standing-now st T) (strikable-stands (rolesOf st) T k s)) (rw (roles-now st T, standing-now st T) s) in
+    strike-iff mid k .1
+    (rw (roles-now st T) lk, rw (standing-now st T) (strikable-stands (rolesOf st) T k s), rw (roles-now st T, standing-now st T) s) in
     made-more st n k strike mid (standingNow st S) (strikes-made st n T m) ok
     (ap (λ (o : Outcome). o .state) (step-accepted mid (strike k) ok) ∙ now-now st T (mid .standing ∖ single k)
     ∙ ap (standingNow st) (ap (λ (x : ℕ). x ∖ single k) (standing-now st T) ∙ sym e))
@@ -253,15 +211,15 @@ unfolding accepted
 restores-made st zero S Restores.none = rw (now-same st) (made-none st restore)
 restores-made st (suc n) S (Restores.one-more {S = T} k _ m lk a e) =
     let mid = standingNow st T in
-    let ok : refusal mid (restore k) ≡ 0 = restore-accepts mid k (rw (roles-now st T) lk) (rw (standing-now st T) a) in
+    let ok : refusal mid (restore k) ≡ 0 = restore-iff mid k .1 (rw (roles-now st T) lk, rw (standing-now st T) a) in
     made-more st n k restore mid (standingNow st S) (restores-made st n T m) ok
     (ap (λ (o : Outcome). o .state) (step-accepted mid (restore k) ok) ∙ now-now st T (mid .standing ∪ single k)
     ∙ ap (standingNow st) (ap (λ (x : ℕ). x ∪ single k) (standing-now st T) ∙ sym e))
 
 -- "an elimination is a list of accepted single strikes", as many as its answer says, with the same state at its end
 pub elimination-made : (st : State) (w : Weights) (t : Tolerance) → Limits st → refusal st (eliminate w t) ≡ 0
-    → Made st (step st (eliminate w t) .given .changed) strike (step st (eliminate w t) .state)
-unfolding accepted answer
+    → Made st (step st (eliminate w t) .replied .changed) strike (step st (eliminate w t) .state)
+unfolding accepted reply
 elimination-made st w t lim e =
     rw (step-accepted st (eliminate w t) e)
     (strikes-made st (eliminated (rolesOf st) w t (st .standing) .changed) (eliminated (rolesOf st) w t (st .standing) .standing)
@@ -269,8 +227,8 @@ elimination-made st w t lim e =
 
 -- "a review a list of accepted single restorations"
 pub review-made : (st : State) (w : Weights) → Limits st → refusal st (review w) ≡ 0
-    → Made st (step st (review w) .given .changed) restore (step st (review w) .state)
-unfolding accepted answer
+    → Made st (step st (review w) .replied .changed) restore (step st (review w) .state)
+unfolding accepted reply
 review-made st w lim e =
     rw (step-accepted st (review w) e)
     (restores-made st (reviewed (rolesOf st) w (st .standing) .changed) (reviewed (rolesOf st) w (st .standing) .standing)
@@ -295,7 +253,7 @@ fresh-covered n m rows e =
           (user-iff ρ (r .place) u .1 (lu, rw (r .there) (subset-refl (getD rows u 0))), rw (r .there) g),
     ))
 
--- within the limits, with all candidates standing, each grant is covered: by the role that is the person's own row
+-- within the limits, with all candidates standing, each grant is covered: by the role that is the user's own row
 pub fresh-fit : (n m : ℕ) (rows : List ℕ) → 1 ≤ n → n ≤ 128 → 1 ≤ m → m ≤ 256 → length rows ≡ n
     → ((u : ℕ) → u < n → getD rows u 0 < 2 ^ m) → length (candidates rows) ≤ 128 → Fit (fresh n m rows)
 unfolding fresh rolesOf candidateCount

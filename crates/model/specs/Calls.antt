@@ -1,34 +1,31 @@
 -- What each outside call answers, and what it leaves in the lent record. A refusal gives its number and zeros, and alters nothing.
 -- Assumes nothing.
 use mathlib.Core.List.{List}
-use Prim.Native.Nat.{ℕ, _*_}
-use lib.Dec.{eqb, leb, ltb}
+use Prim.Native.Nat.{ℕ}
+use lib.Dec.{eqb}
 use lib.ListN.{length}
-use Rattle.sets.specs.Truth.{_and_, isnt, if_then_else_, bit}
+use Rattle.sets.specs.Truth.{isnt, if_then_else_, bit}
 use Rattle.model.specs.Lists.{rowsAt}
 use Rattle.model.specs.Candidates.{candidates}
 use Rattle.model.specs.Hierarchy.{candidateCount}
 use Rattle.model.specs.Chains.{may}
-use Rattle.model.specs.Quality.{Weights, weightsAllowed, counted, weigh}
-use Rattle.model.specs.State.{rolesOf, fresh, withinLimits, rowsWithin}
-use Rattle.model.specs.Record.{recordLength, built, stateOf, rowsOf, sound}
-use Rattle.model.specs.Machine.{Call, Answer, answer, step}
+use Rattle.model.specs.Quality.{Weights, counted, weigh}
+use Rattle.model.specs.State.{rolesOf, fresh}
+use Rattle.model.specs.Record.{built, stateOf, roleRowsOf}
+use Rattle.model.specs.Refusals.{_orElse_, lengthRefusal, soundnessRefusal, limitsRefusal, crewRefusal, candidatesRefusal, pairRefusal, weightsRefusal}
+use Rattle.model.specs.Machine.{Call, Reply, reply, step}
 
 -- 1 or 5 where the lent record is not 2,056 words or not sound, else 0
 unfoldable pub unfit : List ℕ → ℕ
-unfit ws = if isnt (eqb (length ws) recordLength) then 1 else if isnt (sound ws) then 5 else 0
+unfit ws = lengthRefusal ws orElse soundnessRefusal ws
 
 -- ---- mining
 
--- the first of 1, 2, 3 and 4 that applies, or 0
+-- the first of 1, 2, 3 and 4 that applies, or 0: "mining doesn't look at old contents"
 unfoldable pub miningRefusal : ℕ → ℕ → List ℕ → List ℕ → ℕ
-miningRefusal n m crew ws =
-    if isnt (eqb (length ws) recordLength) then 1
-    else if isnt (withinLimits n m) then 2
-    else if isnt (eqb (length crew) (4 * n) and rowsWithin m (rowsAt n crew 0)) then 3
-    else if isnt (leb (length (candidates (rowsAt n crew 0))) 128) then 4
-    else 0
+miningRefusal n m crew ws = lengthRefusal ws orElse limitsRefusal n m orElse crewRefusal n m crew orElse candidatesRefusal (rowsAt n crew 0)
 
+-- what mining answers, and the lent record after it
 pub record Mined : Type 0 where
   pub code : ℕ
   pub candidates : ℕ
@@ -43,23 +40,26 @@ mine n m crew ws =
 
 -- ---- the editing calls
 
+-- what an editing call answers, and the lent record after it
 pub record Edited : Type 0 where
-  pub given : Answer
+  pub replied : Reply
   pub words : List ℕ
 
 -- on a sound record a call does what the machine's step does to the state that it holds, and leaves the record built afresh
 unfoldable pub edit : List ℕ → Call → Edited
 edit ws call =
     let o = step (stateOf ws) call in
-    if isnt (eqb (unfit ws) 0) then record { given = answer (unfit ws) 0 0; words = ws }
-    else record { given = o .given; words = if eqb (o .given .code) 0 then built (o .state) else ws }
+    if isnt (eqb (unfit ws) 0) then record { replied = reply (unfit ws) 0 0; words = ws }
+    else record { replied = o .replied; words = if eqb (o .replied .code) 0 then built (o .state) else ws }
 
 -- ---- the calls that read
 
+-- what a reading call answers: it leaves the record as lent
 pub record Told : Type 0 where
   pub code : ℕ
   pub value : ℕ
 
+-- a refusal's number and 0, or 0 and the value
 unfoldable pub told : ℕ → ℕ → Told
 told code value = if eqb code 0 then record { code = 0; value = value } else record { code = code; value = 0 }
 
@@ -67,15 +67,12 @@ told code value = if eqb code 0 then record { code = 0; value = value } else rec
 unfoldable pub qualityOf : List ℕ → Weights → Told
 qualityOf ws w =
     let st = stateOf ws in
-    told (if isnt (eqb (unfit ws) 0) then unfit ws else if isnt (weightsAllowed w) then 9 else 0)
-    (weigh w (counted (candidateCount (rolesOf st)) (rowsOf ws) (st .standing)))
+    told (unfit ws orElse weightsRefusal w)
+    (weigh w (counted (candidateCount (rolesOf st)) (roleRowsOf ws) (st .standing)))
 
 -- may (u, p), following the links in the record
 unfoldable pub mayOf : List ℕ → ℕ → ℕ → Told
 mayOf ws u p =
     let st = stateOf ws in
-    told
-    (if isnt (eqb (unfit ws) 0) then unfit ws
-    else if isnt (ltb u (st .users) and ltb p (st .permissions)) then 6
-    else 0)
-    (bit (may (candidateCount (rolesOf st)) (rowsOf ws) u p))
+    told (unfit ws orElse pairRefusal (st .users) (st .permissions) u p)
+    (bit (may (candidateCount (rolesOf st)) (roleRowsOf ws) u p))

@@ -24,7 +24,7 @@ unfoldable pub admitMeets : ℕ → List ℕ → List ℕ → List ℕ
 admitMeets r [] table = table
 admitMeets r (x ∷ xs) table = admitMeets r xs (admit (r ∩ x) table)
 
--- one more person: that person's own row, and its intersections with all that was there
+-- one more user: the user's own row, and its intersections with all that was there
 unfoldable pub addRow : ℕ → List ℕ → List ℕ
 addRow r table = admitMeets r table (admit r table)
 
@@ -39,14 +39,14 @@ candidates rows = minedTo rows (length rows)
 
 -- ---- the paper's own words
 
--- x is an intersection of one or more persons' rows: there is a nonempty set T of persons, and p is in x exactly when every person of T has p
-pub record Intersection (rows : List ℕ) (x : ℕ) : Type 0 where
-  pub persons : ℕ
-  pub within : persons < 2 ^ length rows
-  pub nonempty : persons ≢ 0
-  pub exactly : (p : ℕ) → So (has x p) ↔ ((u : ℕ) → So (has persons u) → So (has (getD rows u 0) p))
+-- x is an intersection of one or more of the first n rows: there is a nonempty set of these users, and p is in x exactly when each of them has p
+pub record Intersection (rows : List ℕ) (n x : ℕ) : Type 0 where
+  pub users : ℕ
+  pub within : users < 2 ^ n
+  pub nonempty : users ≢ 0
+  pub exactly : (p : ℕ) → So (has x p) ↔ ((u : ℕ) → So (has users u) → So (has (getD rows u 0) p))
 
--- x stands in the list
+-- x is in the list, at this place
 pub record Listed (xs : List ℕ) (x : ℕ) : Type 0 where
   pub place : ℕ
   pub below : place < length xs

@@ -7,10 +7,10 @@ use Prim.Native.Nat.{ℕ, zero, suc}
 use lib.Dec.{eqb}
 use Rattle.sets.specs.Truth.{_and_, isnt, any}
 use Rattle.sets.specs.Sets.{has, _∪_, collect}
-use Rattle.model.specs.Hierarchy.{Rows}
+use Rattle.model.specs.Hierarchy.{RoleRows}
 
 -- "A link is a role together with one of its immediate juniors."
-unfoldable pub link : Rows → ℕ → ℕ → Bool
+unfoldable pub link : RoleRows → ℕ → ℕ → Bool
 link b k j = has (b .juniors k) j
 
 -- "A chain is one or more links, each from the junior of the one before"
@@ -19,8 +19,8 @@ pub data Chain (joined : ℕ → ℕ → Bool) : ℕ → ℕ → Type 0 where
   more : {k i j : ℕ} → So (joined k i) → Chain joined i j → Chain joined k j
 
 -- the links but the one from x to y; a chain of these with the ends x and y "could replace" that link
-unfoldable pub other : (ℕ → ℕ → Bool) → ℕ → ℕ → ℕ → ℕ → Bool
-other joined x y k j = joined k j and isnt (eqb k x and eqb j y)
+unfoldable pub linksBut : (ℕ → ℕ → Bool) → ℕ → ℕ → ℕ → ℕ → Bool
+linksBut joined x y k j = joined k j and isnt (eqb k x and eqb j y)
 
 -- j is k, or a chain leads from k to j: "by zero or more links"
 abbrev pub Reaches : (ℕ → ℕ → Bool) → ℕ → ℕ → Type 0
@@ -39,18 +39,18 @@ unfoldable pub reached : (ℕ → ℕ → Bool) → ℕ → ℕ → ℕ
 reached joined c s = follow joined c c s
 
 -- the roles that have u as direct member, and the roles that these reach
-unfoldable pub directRoles : ℕ → Rows → ℕ → ℕ
+unfoldable pub directRoles : ℕ → RoleRows → ℕ → ℕ
 directRoles c b u = collect c (λ k. has (b .members k) u)
 
-unfoldable pub rolesReached : ℕ → Rows → ℕ → ℕ
+unfoldable pub rolesReached : ℕ → RoleRows → ℕ → ℕ
 rolesReached c b u = reached (link b) c (directRoles c b u)
 
 -- may (u, p): "does some role have u as direct member and, by zero or more links downward, reach a role with p direct?"
-unfoldable pub may : ℕ → Rows → ℕ → ℕ → Bool
+unfoldable pub may : ℕ → RoleRows → ℕ → ℕ → Bool
 may c b u p = any c (λ j. has (rolesReached c b u) j and has (b .permissions j) p)
 
 -- the same in the paper's own words
-pub record Authorised (b : Rows) (u p : ℕ) : Type 0 where
+pub record Authorised (b : RoleRows) (u p : ℕ) : Type 0 where
   pub role : ℕ
   pub end : ℕ
   pub member : So (has (b .members role) u)

@@ -7,14 +7,14 @@ use lib.ListN.{length, getD}
 use Rattle.sets.specs.Truth.{_and_, none}
 use Rattle.sets.specs.Sets.{has, subset, properSubset, collect}
 
--- the candidate roles of a crew list, and whom they serve
+-- the candidate roles of a crew list, and whom they serve. Users are the "persons" of 01
 pub record Roles : Type 0 where
-  -- n, the number of persons, and m, that of permissions
+  -- n, the number of users, and m, that of permissions
   pub users : ℕ
   pub permissions : ℕ
-  -- the crew row of each person: the grants that roles must cover
+  -- the crew row of each user: the grants that roles must cover
   pub granted : List ℕ
-  -- the row of each person that decides of which roles the person may be a member; today the crew row
+  -- the row of each user that decides of which roles the user may be a member: the crew row, unless a state says otherwise
   pub possible : List ℕ
   -- S(k) of each candidate role k
   pub sets : List ℕ
@@ -27,7 +27,7 @@ candidateCount ρ = length (ρ .sets)
 unfoldable pub permissionSet : Roles → ℕ → ℕ
 permissionSet ρ k = getD (ρ .sets) k 0
 
--- A(k): "the set of persons whose crew row contains S(k)"
+-- A(k): "the set of persons whose crew row contains S(k)"; it asks the possible row, which `rolesOf` makes the crew row
 unfoldable pub authorisedUsers : Roles → ℕ → ℕ
 authorisedUsers ρ k = collect (ρ .users) (λ u. subset (permissionSet ρ k) (getD (ρ .possible) u 0))
 
@@ -41,27 +41,29 @@ immediatelySenior ρ R k j = senior ρ R k j and none (candidateCount ρ) (λ i.
 
 -- ---- a role's row: immediate juniors, direct permissions and direct members; a role outside R has zero rows
 
+-- "immediate juniors"
 unfoldable pub immediateJuniors : Roles → ℕ → ℕ → ℕ
 immediateJuniors ρ R k = collect (candidateCount ρ) (λ j. immediatelySenior ρ R k j)
 
--- "S(k) less the sets of all its juniors"
+-- of n items, those that a role k of R has itself: what its own set holds less the sets of all that take away from it. There are c roles, and
+-- `takes j k` says that j takes away from k
+unfoldable pub directOf : ℕ → ℕ → ℕ → (ℕ → ℕ → Bool) → (ℕ → ℕ) → ℕ → ℕ
+directOf n c R takes own k = collect n (λ i. has R k and has (own k) i and none c (λ j. takes j k and has (own j) i))
+
+-- direct permissions: "S(k) less the sets of all its juniors"
 unfoldable pub directPermissions : Roles → ℕ → ℕ → ℕ
-directPermissions ρ R k =
-    collect (ρ .permissions)
-    (λ p. has R k and has (permissionSet ρ k) p and none (candidateCount ρ) (λ j. senior ρ R k j and has (permissionSet ρ j) p))
+directPermissions ρ R k = directOf (ρ .permissions) (candidateCount ρ) R (λ j k. senior ρ R k j) (permissionSet ρ) k
 
--- "A(k) less A of all its seniors"
+-- direct members: "A(k) less A of all its seniors"
 unfoldable pub directMembers : Roles → ℕ → ℕ → ℕ
-directMembers ρ R k =
-    collect (ρ .users)
-    (λ u. has R k and has (authorisedUsers ρ k) u and none (candidateCount ρ) (λ i. senior ρ R i k and has (authorisedUsers ρ i) u))
+directMembers ρ R k = directOf (ρ .users) (candidateCount ρ) R (senior ρ R) (authorisedUsers ρ) k
 
--- the rows of all roles, whoever made them: the building of R, or what a record's words hold
-pub record Rows : Type 0 where
+-- the row of each role, whoever made it: the building of R, or what a record's words hold
+pub record RoleRows : Type 0 where
   pub juniors : ℕ → ℕ
   pub permissions : ℕ → ℕ
   pub members : ℕ → ℕ
 
 -- "The building of R"
-unfoldable pub building : Roles → ℕ → Rows
+unfoldable pub building : Roles → ℕ → RoleRows
 building ρ R = record { juniors = immediateJuniors ρ R; permissions = directPermissions ρ R; members = directMembers ρ R }

@@ -7,6 +7,7 @@ pub mod Quality
 pub mod State
 pub mod Record
 pub mod Altered
+pub mod Refusals
 pub mod Machine
 pub mod Calls
 pub mod Claim

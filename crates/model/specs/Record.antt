@@ -9,9 +9,9 @@ use lib.ListN.{length, getD}
 use Rattle.sets.specs.Truth.{_and_, if_then_else_, all}
 use Rattle.sets.specs.Words.{word}
 use Rattle.model.specs.Lists.{tabulate, setAt, rowsAt}
-use Rattle.model.specs.Hierarchy.{Rows, candidateCount, permissionSet, directPermissions, directMembers, immediateJuniors}
+use Rattle.model.specs.Hierarchy.{RoleRows, candidateCount, permissionSet, directPermissions, directMembers, immediateJuniors}
 use Rattle.model.specs.Coverage.{allCovered}
-use Rattle.model.specs.State.{State, rolesOf, withinLimits, rowsWithin}
+use Rattle.model.specs.State.{State, mostUsers, mostPermissions, mostCandidates, rolesOf, withinLimits, rowsWithin}
 
 -- "The record is lent as 2,056 words of 64 bits", and where each region starts
 abbrev pub recordLength : ℕ
@@ -70,8 +70,8 @@ stateOf ws =
     }
 
 -- the rows of its c roles that a record's words hold
-unfoldable pub rowsOf : List ℕ → Rows
-rowsOf ws =
+unfoldable pub roleRowsOf : List ℕ → RoleRows
+roleRowsOf ws =
     record {
       juniors = λ k. if ltb k (getD ws 2 0) then setAt 2 ws (juniorsStart + 2 * k) else 0;
       permissions = λ k. if ltb k (getD ws 2 0) then setAt 4 ws (permissionsStart + 4 * k) else 0;
@@ -82,7 +82,7 @@ rowsOf ws =
 unfoldable pub stateSound : State → Bool
 stateSound st =
     withinLimits (st .users) (st .permissions) and eqb (length (st .rows)) (st .users) and rowsWithin (st .permissions) (st .rows)
-    and leb (candidateCount (rolesOf st)) 128 and ltb (st .standing) (2 ^ candidateCount (rolesOf st))
+    and leb (candidateCount (rolesOf st)) mostCandidates and ltb (st .standing) (2 ^ candidateCount (rolesOf st))
     and allCovered (rolesOf st) (st .standing)
 
 -- "A record is sound when": its state is, and each of its words is what building afresh from that state gives
@@ -93,10 +93,10 @@ sound ws =
 -- the limits of 01, kept by a state: what every record that is built afresh is asked to keep
 pub record Limits (st : State) : Type 0 where
   pub users-some : 1 ≤ st .users
-  pub users-most : st .users ≤ 128
+  pub users-most : st .users ≤ mostUsers
   pub permissions-some : 1 ≤ st .permissions
-  pub permissions-most : st .permissions ≤ 256
+  pub permissions-most : st .permissions ≤ mostPermissions
   pub rows-count : length (st .rows) ≡ st .users
   pub rows-below : (u : ℕ) → u < st .users → getD (st .rows) u 0 < 2 ^ st .permissions
-  pub candidates-most : candidateCount (rolesOf st) ≤ 128
+  pub candidates-most : candidateCount (rolesOf st) ≤ mostCandidates
   pub standing-below : st .standing < 2 ^ candidateCount (rolesOf st)

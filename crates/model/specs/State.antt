@@ -11,7 +11,7 @@ use Rattle.model.specs.Candidates.{candidates}
 use Rattle.model.specs.Hierarchy.{Roles}
 
 pub record State : Type 0 where
-  -- n, m, and the crew row of each person
+  -- n, m, and the crew row of each user
   pub users : ℕ
   pub permissions : ℕ
   pub rows : List ℕ
@@ -37,9 +37,18 @@ standingNow st R = record { users = st .users; permissions = st .permissions; ro
 unfoldable pub fresh : ℕ → ℕ → List ℕ → State
 fresh n m rows = record { users = n; permissions = m; rows = rows; standing = collect (length (candidates rows)) (λ k. true) }
 
--- "n from 1 to 128", "m from 1 to 256"
+-- "n from 1 to 128", "m from 1 to 256", "c at most 128"
+abbrev pub mostUsers : ℕ
+mostUsers = 128
+
+abbrev pub mostPermissions : ℕ
+mostPermissions = 256
+
+abbrev pub mostCandidates : ℕ
+mostCandidates = 128
+
 unfoldable pub withinLimits : ℕ → ℕ → Bool
-withinLimits n m = leb 1 n and leb n 128 and leb 1 m and leb m 256
+withinLimits n m = leb 1 n and leb n mostUsers and leb 1 m and leb m mostPermissions
 
 -- no crew row has a bit at m or above
 unfoldable pub rowsWithin : ℕ → List ℕ → Bool
