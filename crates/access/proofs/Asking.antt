@@ -13,12 +13,12 @@ use Rattle.sets.proofs.Truth.{same-test, and-iff, any-of, any-is, any-same}
 use Rattle.sets.proofs.Items.{item-below}
 use Rattle.sets.proofs.Order.{collect-same, collect-lt}
 use Rattle.model.specs.Lists.{setAt}
-use Rattle.model.specs.Hierarchy.{Rows, candidateCount}
+use Rattle.model.specs.Hierarchy.{candidateCount, RoleRows}
 use Rattle.model.specs.Chains.{link, reached, directRoles, rolesReached, may}
 use Rattle.model.specs.State.{rolesOf}
-use Rattle.model.specs.Record.{stateOf, rowsOf, sound, juniorsStart, membersStart, permissionsStart}
+use Rattle.model.specs.Record.{stateOf, sound, juniorsStart, membersStart, permissionsStart, roleRowsOf}
 use Rattle.model.proofs.Building.{building-below, link-senior, senior-lower}
-use Rattle.model.proofs.Chains.{RowsBelow, reached-lt}
+use Rattle.model.proofs.Chains.{reached-lt, RoleRowsBelow}
 use Rattle.model.proofs.Steps.{limits-ordered}
 use Rattle.model.proofs.Claim.{sound-fit}
 use Rattle.model.proofs.Sound.{row-juniors, row-permissions, row-members, sound-count, sound-few, sound-rows, sound-below}
@@ -27,7 +27,7 @@ use Rattle.tables.proofs.Parts.{setAt-part}
 use Rattle.access.specs.Reach.{Downward}
 
 module _ (ws : List ℕ) (h : So (sound ws)) where
-  pub sound-downward : Downward (getD ws 2 0) (rowsOf ws)
+  pub sound-downward : Downward (getD ws 2 0) (roleRowsOf ws)
   sound-downward =
       let ρ = rolesOf (stateOf ws) in
       let R = stateOf ws .standing in
@@ -38,13 +38,13 @@ module _ (ws : List ℕ) (h : So (sound ws)) where
   -- the code's own steps: the direct roles of u, what these reach, and whether one of that has p
   pub may-found : (u p direct found : ℕ) (r : Bool)
       → direct ≡ collect (getD ws 2 0) (λ k. has (setAt 2 (take 256 (drop membersStart ws)) (2 * k)) u)
-      → ((b : Rows) (c : ℕ) → c ≤ 128 → Holds 2 c (b .juniors) (take 256 (drop juniorsStart ws)) → Downward c b → direct < 2 ^ c → found ≡ reached (link b) c direct)
+      → ((b : RoleRows) (c : ℕ) → c ≤ 128 → Holds 2 c (b .juniors) (take 256 (drop juniorsStart ws)) → Downward c b → direct < 2 ^ c → found ≡ reached (link b) c direct)
       → r ≡ any 128 (λ j. has found j and has (setAt 4 (take 512 (drop permissionsStart ws)) (4 * j)) p)
-      → r ≡ may (candidateCount (rolesOf (stateOf ws))) (rowsOf ws) u p
+      → r ≡ may (candidateCount (rolesOf (stateOf ws))) (roleRowsOf ws) u p
   unfolding may rolesReached directRoles
   may-found u p direct found r ed ef er =
       let c = getD ws 2 0 in
-      let b = rowsOf ws in
+      let b = roleRowsOf ws in
       let few = sound-few ws h in
       let down = sound-downward in
       let own : direct ≡ directRoles c b u =
@@ -60,7 +60,7 @@ module _ (ws : List ℕ) (h : So (sound ws)) where
       let same : (j : ℕ) → j < c → f j ≡ g j =
       λ j l.
       ap₂ (λ (x y : ℕ). has x j and has y p) all (setAt-part 4 permissionsStart 512 ws (4 * j) (omega arith) ∙ sym (row-permissions ws j l)) in
-      let inside : RowsBelow c b = rw (sound-count ws h) (sound-below ws h) in
+      let inside : RoleRowsBelow c b = rw (sound-count ws h) (sound-below ws h) in
       let below : (j : ℕ) → So (f j) → j < c =
       λ j x.
       item-below c (reached (link b) c direct) j (reached-lt c b inside direct small)

@@ -12,14 +12,14 @@ use Rattle.sets.proofs.Truth.{by-test, So-not, not-So, if-true, if-false, eithe
 use Rattle.sets.proofs.Items.{item-below, same-set, below-of-items}
 use Rattle.sets.proofs.Order.{∪-iff, ∪-lt}
 use Rattle.model.specs.Lists.{setAt}
-use Rattle.model.specs.Hierarchy.{Rows}
+use Rattle.model.specs.Hierarchy.{RoleRows}
 use Rattle.model.specs.Chains.{link, reached}
 use Rattle.model.proofs.Chains.{closed-chain, reaches-more, reached-iff}
 use Rattle.tables.specs.Tables.{Holds}
 use Rattle.access.specs.Reach.{Downward}
 
 -- t has been found from s, and the links of its roles from k up have been followed
-pub record Followed (b : Rows) (c s k t : ℕ) : Type 0 where
+pub record Followed (b : RoleRows) (c s k t : ℕ) : Type 0 where
   pub below : t < 2 ^ c
   pub start : (j : ℕ) → So (has s j) → So (has t j)
   pub only : (j : ℕ) → So (has t j) → So (has (reached (link b) c s) j)
@@ -28,7 +28,7 @@ pub record Followed (b : Rows) (c s k t : ℕ) : Type 0 where
 next : (k i : ℕ) → k ≤ i → k ≢ i → suc k ≤ i
 next k i l d = either k i (λ m. m) (λ m. absurd (d (omega arith)))
 
-module _ (b : Rows) (c s : ℕ) (few : c ≤ 128) (down : Downward c b) (small : s < 2 ^ c) where
+module _ (b : RoleRows) (c s : ℕ) (few : c ≤ 128) (down : Downward c b) (small : s < 2 ^ c) where
   followed-none : Followed b c s 128 s
   followed-none =
       record {
@@ -80,7 +80,7 @@ module _ (b : Rows) (c s : ℕ) (few : c ≤ 128) (down : Downward c b) (small :
 -- for all rows that the table of juniors can stand for
 abbrev pub Following : List ℕ → ℕ → ℕ → ℕ → Type 0
 Following juniors s k t =
-    (b : Rows) (c : ℕ) → c ≤ 128 → Holds 2 c (b .juniors) juniors → Downward c b → s < 2 ^ c → Followed b c s k t
+    (b : RoleRows) (c : ℕ) → c ≤ 128 → Holds 2 c (b .juniors) juniors → Downward c b → s < 2 ^ c → Followed b c s k t
 
 pub following-none : (juniors : List ℕ) (s : ℕ) → Following juniors s 128 s
 following-none juniors s b c few h down small = followed-none b c s few down small
@@ -96,5 +96,5 @@ following-more juniors s k p t x t' inv e ex et b c few h down small =
     (λ y. rw (et ∙ if-false (has t p) (t ∪ x) t y) (followed-past b c s few down small p t f y))
 
 pub following-all : (juniors : List ℕ) (s k t : ℕ) → Following juniors s k t → k ≡ 0
-    → (b : Rows) (c : ℕ) → c ≤ 128 → Holds 2 c (b .juniors) juniors → Downward c b → s < 2 ^ c → t ≡ reached (link b) c s
+    → (b : RoleRows) (c : ℕ) → c ≤ 128 → Holds 2 c (b .juniors) juniors → Downward c b → s < 2 ^ c → t ≡ reached (link b) c s
 following-all juniors s k t inv e b c few h down small = followed-all b c s few down small t (rw e at (inv b c few h down small))

@@ -4,7 +4,7 @@ ghost use lib.ListN.{length};
 ghost use Rattle.sets.specs.Held.{set128};
 ghost use Rattle.sets.specs.Sets.{has, _∪_};
 ghost use Rattle.sets.specs.Truth.{if_then_else_};
-ghost use Rattle.model.specs.Hierarchy.{Rows};
+ghost use Rattle.model.specs.Hierarchy.{RoleRows};
 ghost use Rattle.model.specs.Chains.{link, reached};
 ghost use Rattle.tables.specs.Tables.{Holds};
 ghost use Rattle.access.specs.Reach.{Downward};
@@ -15,7 +15,7 @@ use tables::load128;
 // lead to it.
 pub fn reached_from(juniors: &[u64], s: Set128) -> Set128
     requires { ⌜ length (now juniors) ≡ 256 ⌝ }
-    ensures { λ r. ⌜ ((b : Rows) (c : ℕ) → c ≤ 128 → Holds 2 c (b .juniors) (now (juniors .entry)) → Downward c b → set128 s < 2 ^ c → set128 r ≡ reached (link b) c (set128 s)) ⌝ }
+    ensures { λ r. ⌜ ((b : RoleRows) (c : ℕ) → c ≤ 128 → Holds 2 c (b .juniors) (now (juniors .entry)) → Downward c b → set128 s < 2 ^ c → set128 r ≡ reached (link b) c (set128 s)) ⌝ }
 {
     let mut found = s;
     let mut k = 128;

@@ -10,7 +10,7 @@ ghost use Rattle.model.specs.Lists.{setAt};
 ghost use Rattle.model.specs.Hierarchy.{candidateCount};
 ghost use Rattle.model.specs.Chains as model;
 ghost use Rattle.model.specs.State.{rolesOf};
-ghost use Rattle.model.specs.Record.{recordLength, stateOf, rowsOf, sound};
+ghost use Rattle.model.specs.Record.{recordLength, stateOf, sound, roleRowsOf};
 use crate::reach::reached_from;
 use columns::column;
 use sets::Set128;
@@ -22,7 +22,7 @@ use tables::load256;
 
 pub fn may(rec: &[u64], u: usize, p: usize) -> bool
     requires { ⌜ (length (now rec) ≡ recordLength) × (getD (now rec) 2 0 ≤ 128) ⌝ }
-    ensures { λ r. ⌜ (So (sound (now (rec .entry))) → r ≡ model.may (candidateCount (rolesOf (stateOf (now (rec .entry))))) (rowsOf (now (rec .entry))) u p) ⌝ }
+    ensures { λ r. ⌜ (So (sound (now (rec .entry))) → r ≡ model.may (candidateCount (rolesOf (stateOf (now (rec .entry))))) (roleRowsOf (now (rec .entry))) u p) ⌝ }
 {
     let c = rec[2] as usize;
     let direct = column(&rec[MEMBERS..JUNIORS], c, u);

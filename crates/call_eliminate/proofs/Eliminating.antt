@@ -9,8 +9,8 @@ use native.Mathlib.Omega.{arith}
 use lib.Dec.{leb}
 use Rattle.sets.specs.Truth.{_and_}
 use Rattle.sets.proofs.Truth.{same-test, So-not, not-So, and-iff, leb-iff, if-passes, if-stops}
-use Rattle.model.specs.Quality.{Weights, weightsAllowed}
-use Rattle.model.specs.Machine.{Tolerance, toleranceAllowed, refusal, accepted, answer, eliminated}
+use Rattle.model.specs.Quality.{Weights, weightsAllowed, Tolerance, toleranceAllowed}
+use Rattle.model.specs.Machine.{refusal, accepted, eliminated, reply}
 use Rattle.model.specs.Machine.Call.{eliminate}
 use Rattle.model.specs.State.{rolesOf}
 use Rattle.model.specs.Record.{stateOf, sound}
@@ -48,7 +48,7 @@ eliminate-9-tolerance ws w t h f =
 
 pub eliminate-0 : (ws low users after : List ℕ) (w : Weights) (t : Tolerance) (g : Progress) → So (sound ws) → So (weightsAllowed w) → So (toleranceAllowed t)
     → Ready after low users × Kin (stateOf ws) after × Ended after g (eliminated (rolesOf (stateOf ws)) w t (stateOf ws .standing))
-    → record { given = answer 0 (g .changed) (g .examined); words = after } ≡ edit ws (eliminate w t)
+    → record { replied = reply 0 (g .changed) (g .examined); words = after } ≡ edit ws (eliminate w t)
 unfolding refusal accepted
 eliminate-0 ws low users after w t g h ok allowed done =
     run-given ws low users after g (eliminated (rolesOf (stateOf ws)) w t (stateOf ws .standing) .worklist) (eliminate w t) h
@@ -56,12 +56,12 @@ eliminate-0 ws low users after w t g h ok allowed done =
 
 pub eliminate-told : (r : EliminateAnswer) (ws : List ℕ) (n : ℕ) (o : Edited) → (r .code ≡ n) × (r .removed ≡ 0) × (r .examined ≡ 0) → refusedWith n ws ≡ o → eliminateGiven r ws ≡ o
 unfolding eliminateGiven
-eliminate-told r ws n o e f = (λ i. record { given = answer (e .0 i) (e .1 i) (e .2 i); words = ws }) ∙ f
+eliminate-told r ws n o e f = (λ i. record { replied = reply (e .0 i) (e .1 i) (e .2 i); words = ws }) ∙ f
 
 pub eliminate-given : (r : EliminateAnswer) (ws : List ℕ) (g : Progress) (o : Edited) → (r .code ≡ 0) × (r .removed ≡ g .changed) × (r .examined ≡ g .examined)
-    → record { given = answer 0 (g .changed) (g .examined); words = ws } ≡ o → eliminateGiven r ws ≡ o
+    → record { replied = reply 0 (g .changed) (g .examined); words = ws } ≡ o → eliminateGiven r ws ≡ o
 unfolding eliminateGiven
-eliminate-given r ws g o e f = (λ i. record { given = answer (e .0 i) (e .1 i) (e .2 i); words = ws }) ∙ f
+eliminate-given r ws g o e f = (λ i. record { replied = reply (e .0 i) (e .1 i) (e .2 i); words = ws }) ∙ f
 
 -- the struct of the inner function is the same tolerance
 pub tolerance-in : (t : tolerance.Tolerance) → toleranceIn t ≡ toleranceOf (t .numerator) (t .denominator)

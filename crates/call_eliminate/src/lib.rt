@@ -1,6 +1,6 @@
 ghost use mathlib.Core.Path.{_≡_};
 ghost use Rattle.model.specs.Calls.{edit};
-ghost use Rattle.model.specs.Machine.{toleranceAllowed};
+ghost use Rattle.model.specs.Quality.{toleranceAllowed};
 ghost use Rattle.model.specs.Machine.Call.{eliminate};
 ghost use Rattle.quality.specs.Reading.{weightsOf};
 ghost use Rattle.call_eliminate.specs.Answers.{toleranceOf, eliminateGiven};

@@ -14,7 +14,7 @@ use Rattle.sets.proofs.Truth.{same-iff, not-So, and-iff, ltb-iff, if-passes, if
 use Rattle.model.specs.Hierarchy.{candidateCount}
 use Rattle.model.specs.Chains.{may}
 use Rattle.model.specs.State.{rolesOf}
-use Rattle.model.specs.Record.{recordLength, stateOf, rowsOf, sound}
+use Rattle.model.specs.Record.{recordLength, stateOf, sound, roleRowsOf}
 use Rattle.model.specs.Calls.{Told, unfit, mayOf}
 use Rattle.model.proofs.Sound.{may-granted}
 use Rattle.calls.proofs.Fitting.{unfit-1, unfit-5, fit-sound, some}
@@ -65,7 +65,7 @@ module _ (ws : List ℕ) (u p : ℕ) where
     unfolding stateOf
     may-6-permission l = stranger (λ x. let a = x .1 in let z : ⊥ = omega arith in z)
 
-    pub may-given : (v : ℕ) → u < getD ws 0 0 → p < getD ws 1 0 → v ≡ bit (may (candidateCount (rolesOf (stateOf ws))) (rowsOf ws) u p)
+    pub may-given : (v : ℕ) → u < getD ws 0 0 → p < getD ws 1 0 → v ≡ bit (may (candidateCount (rolesOf (stateOf ws))) (roleRowsOf ws) u p)
         → record { code = 0; value = v } ≡ mayOf ws u p
     unfolding mayOf stateOf known
     may-given v lu lp e =
@@ -79,6 +79,6 @@ module _ (ws : List ℕ) (u p : ℕ) where
   unfolding stateOf
   may-by-crew e lu lp =
       let h = fit-sound ws e in
-      let by : may (candidateCount (rolesOf (stateOf ws))) (rowsOf ws) u p ≡ has (getD (stateOf ws .rows) u 0) p =
-      same-iff (may (candidateCount (rolesOf (stateOf ws))) (rowsOf ws) u p) (has (getD (stateOf ws .rows) u 0) p) (may-granted ws h u p lu lp) in
+      let by : may (candidateCount (rolesOf (stateOf ws))) (roleRowsOf ws) u p ≡ has (getD (stateOf ws .rows) u 0) p =
+      same-iff (may (candidateCount (rolesOf (stateOf ws))) (roleRowsOf ws) u p) (has (getD (stateOf ws .rows) u 0) p) (may-granted ws h u p lu lp) in
       sym (may-given h (bit (has (getD (stateOf ws .rows) u 0) p)) lu lp (ap bit (sym by)))

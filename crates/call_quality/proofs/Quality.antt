@@ -11,7 +11,7 @@ use Rattle.sets.proofs.Truth.{if-passes, if-stops}
 use Rattle.model.specs.Hierarchy.{candidateCount}
 use Rattle.model.specs.Quality.{Weights, weightsAllowed, counted, weigh}
 use Rattle.model.specs.State.{rolesOf}
-use Rattle.model.specs.Record.{recordLength, stateOf, rowsOf, sound}
+use Rattle.model.specs.Record.{recordLength, stateOf, sound, roleRowsOf}
 use Rattle.model.specs.Calls.{Told, unfit, qualityOf}
 use Rattle.calls.proofs.Fitting.{unfit-1, unfit-5, some}
 use Rattle.calls.proofs.Telling.{told-refused, told-given, bad-record, good-record}
@@ -39,7 +39,7 @@ module _ (ws : List ℕ) (w : Weights) where
     quality-9 f = sym (told-refused 9 _ _ (some _ (omega arith)) (good-record ws _ h ∙ if-stops (weightsAllowed w) 9 0 f))
 
     pub quality-given : (q : ℕ) → So (weightsAllowed w)
-        → q ≡ weigh w (counted (candidateCount (rolesOf (stateOf ws))) (rowsOf ws) (stateOf ws .standing)) → record { code = 0; value = q } ≡ qualityOf ws w
+        → q ≡ weigh w (counted (candidateCount (rolesOf (stateOf ws))) (roleRowsOf ws) (stateOf ws .standing)) → record { code = 0; value = q } ≡ qualityOf ws w
     unfolding qualityOf
     quality-given q ok e =
         (λ i. record { code = 0; value = e i }) ∙ sym (told-given _ _ (good-record ws _ h ∙ if-passes (weightsAllowed w) 9 0 ok))

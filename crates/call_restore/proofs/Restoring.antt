@@ -16,7 +16,7 @@ use Rattle.model.specs.State.{State, rolesOf, standingNow}
 use Rattle.model.specs.Record.{built, stateOf, sound, Limits}
 use Rattle.model.specs.Calls.{Edited, edit}
 use Rattle.model.proofs.Record.{sound-built}
-use Rattle.model.proofs.Steps.{restore-accepts}
+use Rattle.model.proofs.Refusals.{restore-iff}
 use Rattle.indexes.specs.Tables.{Indexed}
 use Rattle.calls.proofs.Edits.{refusedWith, edit-refused, edit-accepted, sound-limits, stands-told, unknown, number, known-on}
 use Rattle.call_restore.specs.declared.RestoreAnswer.{RestoreAnswer}
@@ -39,7 +39,7 @@ module _ (ws : List ℕ) (h : So (sound ws)) (k : ℕ) where
     unfolding accepted
     restore-0 gone low roles users after ix done =
         let absent : has (stateOf ws .standing) k ≡ false = sym (stands-told ws h t R k e et) ∙ gone in
-        edit-accepted ws (restore k) h (accepted (stateOf ws) (restore k)) after (restore-accepts (stateOf ws) k (number ws h k l) absent) refl
+        edit-accepted ws (restore k) h (accepted (stateOf ws) (restore k)) after (restore-iff (stateOf ws) k (number ws h k l) absent) refl
         (done (stateOf ws) roles (sound-limits ws h) (sound-built ws h) ix (number ws h k l) absent)
 
 -- the answer's field

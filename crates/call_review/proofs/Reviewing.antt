@@ -7,7 +7,7 @@ use Prim.Native.Nat.{ℕ}
 use native.Mathlib.Omega.{arith}
 use Rattle.sets.proofs.Truth.{if-passes, if-stops}
 use Rattle.model.specs.Quality.{Weights, weightsAllowed}
-use Rattle.model.specs.Machine.{refusal, accepted, answer, reviewed}
+use Rattle.model.specs.Machine.{refusal, accepted, reviewed, reply}
 use Rattle.model.specs.Machine.Call.{review}
 use Rattle.model.specs.State.{rolesOf}
 use Rattle.model.specs.Record.{stateOf, sound}
@@ -24,15 +24,15 @@ review-9 ws w h f = edit-refused ws (review w) h 9 (omega arith) (if-stops (weig
 
 pub review-0 : (ws low users after : List ℕ) (w : Weights) (g : Progress) → So (sound ws) → So (weightsAllowed w)
     → Ready after low users × Kin (stateOf ws) after × (runAt after g 0 ≡ reviewed (rolesOf (stateOf ws)) w (stateOf ws .standing))
-    → record { given = answer 0 (g .changed) (g .examined); words = after } ≡ edit ws (review w)
+    → record { replied = reply 0 (g .changed) (g .examined); words = after } ≡ edit ws (review w)
 unfolding refusal accepted
 review-0 ws low users after w g h ok t = run-given ws low users after g 0 (review w) h (if-passes (weightsAllowed w) 9 0 ok) t
 
 pub review-told : (r : ReviewAnswer) (ws : List ℕ) (n : ℕ) (o : Edited) → (r .code ≡ n) × (r .restored ≡ 0) × (r .examined ≡ 0) → refusedWith n ws ≡ o → reviewGiven r ws ≡ o
 unfolding reviewGiven
-review-told r ws n o e f = (λ i. record { given = answer (e .0 i) (e .1 i) (e .2 i); words = ws }) ∙ f
+review-told r ws n o e f = (λ i. record { replied = reply (e .0 i) (e .1 i) (e .2 i); words = ws }) ∙ f
 
 pub review-given : (r : ReviewAnswer) (ws : List ℕ) (g : Progress) (o : Edited) → (r .code ≡ 0) × (r .restored ≡ g .changed) × (r .examined ≡ g .examined)
-    → record { given = answer 0 (g .changed) (g .examined); words = ws } ≡ o → reviewGiven r ws ≡ o
+    → record { replied = reply 0 (g .changed) (g .examined); words = ws } ≡ o → reviewGiven r ws ≡ o
 unfolding reviewGiven
-review-given r ws g o e f = (λ i. record { given = answer (e .0 i) (e .1 i) (e .2 i); words = ws }) ∙ f
+review-given r ws g o e f = (λ i. record { replied = reply (e .0 i) (e .1 i) (e .2 i); words = ws }) ∙ f

@@ -1,10 +1,10 @@
--- The answer with the record as the call leaves it, in the form in which the model gives it.
+-- The reply with the record as the call leaves it, in the form in which the model gives it.
 -- Assumes nothing.
 use mathlib.Core.List.{List}
 use Prim.Native.Nat.{ℕ}
-use Rattle.model.specs.Machine.{answer}
+use Rattle.model.specs.Machine.{reply}
 use Rattle.model.specs.Calls.{Edited}
 use Rattle.call_review.specs.declared.ReviewAnswer.{ReviewAnswer}
 
 unfoldable pub reviewGiven : ReviewAnswer → List ℕ → Edited
-reviewGiven r ws = record { given = answer (r .code) (r .restored) (r .examined); words = ws }
+reviewGiven r ws = record { replied = reply (r .code) (r .restored) (r .examined); words = ws }

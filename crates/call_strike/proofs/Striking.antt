@@ -16,7 +16,7 @@ use Rattle.model.specs.State.{State, rolesOf, standingNow}
 use Rattle.model.specs.Record.{built, stateOf, sound, Limits}
 use Rattle.model.specs.Calls.{Edited, edit}
 use Rattle.model.proofs.Record.{sound-built}
-use Rattle.model.proofs.Steps.{strike-accepts}
+use Rattle.model.proofs.Refusals.{strike-iff}
 use Rattle.indexes.specs.Tables.{Indexed}
 use Rattle.calls.proofs.Edits.{refusedWith, edit-refused, edit-accepted, sound-limits, stands-told, unknown, number, known-on}
 use Rattle.call_strike.specs.declared.StrikeAnswer.{StrikeAnswer}
@@ -53,7 +53,7 @@ module _ (ws : List ℕ) (h : So (sound ws)) (k : ℕ) where
             → refusedWith 0 after ≡ edit ws (strike k)
         unfolding accepted
         strike-0 ok after done =
-            edit-accepted ws (strike k) h (accepted (stateOf ws) (strike k)) after (strike-accepts (stateOf ws) k (number ws h k l) stands (sym able ∙ ok)) refl
+            edit-accepted ws (strike k) h (accepted (stateOf ws) (strike k)) after (strike-iff (stateOf ws) k (number ws h k l) stands (sym able ∙ ok)) refl
             (done (stateOf ws) roles (sound-limits ws h) (sound-built ws h) ix stands)
 
 -- the answer's field

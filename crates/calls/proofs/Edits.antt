@@ -14,13 +14,13 @@ use Rattle.sets.proofs.Truth.{not-So, eqb-iff, ltb-iff, isnt-iff, if-true, if-p
 use Rattle.model.specs.Lists.{setAt}
 use Rattle.model.specs.Hierarchy.{candidateCount}
 use Rattle.model.specs.Quality.{counted}
-use Rattle.model.specs.Machine.{Call, Run, answer, refusal, accepted}
+use Rattle.model.specs.Machine.{Call, Run, refusal, accepted, reply}
 use Rattle.model.specs.State.{rolesOf, standingNow}
-use Rattle.model.specs.Record.{recordLength, built, stateOf, rowsOf, sound, Limits}
+use Rattle.model.specs.Record.{recordLength, built, stateOf, sound, Limits, roleRowsOf}
 use Rattle.model.specs.Calls.{Edited, unfit, edit}
 use Rattle.model.proofs.Record.{sound-iff, sound-built}
 use Rattle.model.proofs.Steps.{step-accepted, step-refused}
-use Rattle.model.proofs.Claim.{edit-given, edit-words}
+use Rattle.model.proofs.Claim.{edit-words, edit-replied}
 use Rattle.indexes.specs.Tables.{Indexed}
 use Rattle.edit_rows.proofs.Changing.{count, few, standing-read}
 use Rattle.quality.specs.declared.quality.Counts.{Counts}
@@ -34,7 +34,7 @@ use Rattle.calls.proofs.Fitting.{some, unfit-1, unfit-5}
 
 -- what a call that is refused with the number n leaves
 abbrev pub refusedWith : ℕ → List ℕ → Edited
-refusedWith n ws = record { given = answer n 0 0; words = ws }
+refusedWith n ws = record { replied = reply n 0 0; words = ws }
 
 module _ (ws : List ℕ) (call : Call) where
   edit-unfit : (n : ℕ) → n ≢ 0 → unfit ws ≡ n → refusedWith n ws ≡ edit ws call
@@ -52,17 +52,17 @@ module _ (ws : List ℕ) (call : Call) where
     pub edit-refused : (n : ℕ) → 1 ≤ n → refusal (stateOf ws) call ≡ n → refusedWith n ws ≡ edit ws call
     edit-refused n l e =
         let s = step-refused (stateOf ws) call (λ z. some n l (sym e ∙ z)) in
-        let given : edit ws call .given ≡ answer n 0 0 = edit-given ws h call ∙ rw (s, e) refl in
+        let given : edit ws call .replied ≡ reply n 0 0 = edit-replied ws h call ∙ rw (s, e) refl in
         let words : edit ws call .words ≡ ws = edit-words ws h call ∙ rw s (sym (sound-built ws h)) in
-        λ i. record { given = sym given i; words = sym words i }
+        λ i. record { replied = sym given i; words = sym words i }
 
     pub edit-accepted : (r : Run) (after : List ℕ) → refusal (stateOf ws) call ≡ 0 → accepted (stateOf ws) call ≡ r
-        → after ≡ built (standingNow (stateOf ws) (r .standing)) → record { given = answer 0 (r .changed) (r .examined); words = after } ≡ edit ws call
+        → after ≡ built (standingNow (stateOf ws) (r .standing)) → record { replied = reply 0 (r .changed) (r .examined); words = after } ≡ edit ws call
     edit-accepted r after e same now-after =
         let s = step-accepted (stateOf ws) call e in
-        let given : edit ws call .given ≡ answer 0 (r .changed) (r .examined) = edit-given ws h call ∙ rw (s, same) refl in
+        let given : edit ws call .replied ≡ reply 0 (r .changed) (r .examined) = edit-replied ws h call ∙ rw (s, same) refl in
         let words : edit ws call .words ≡ after = edit-words ws h call ∙ rw (s, same) (sym now-after) in
-        λ i. record { given = sym given i; words = sym words i }
+        λ i. record { replied = sym given i; words = sym words i }
 
 -- ---- what a sound record tells the call
 
@@ -98,7 +98,7 @@ module _ (ws : List ℕ) (h : So (sound ws)) where
 -- an accepted call leaves the run that the record and the progress hold
 pub run-given : (ws low users after : List ℕ) (g : Progress) (worklist : ℕ) (call : Call) → So (sound ws) → refusal (stateOf ws) call ≡ 0
     → Ready after low users × Kin (stateOf ws) after × (runAt after g worklist ≡ accepted (stateOf ws) call)
-    → record { given = answer 0 (g .changed) (g .examined); words = after } ≡ edit ws call
+    → record { replied = reply 0 (g .changed) (g .examined); words = after } ≡ edit ws call
 unfolding runAt
 run-given ws low users after g worklist call h e t =
     edit-accepted ws call h (runAt after g worklist) after e (sym (t .2)) (t .0 .afresh ∙ ap built (t .1))
@@ -107,5 +107,5 @@ run-given ws low users after g worklist call h e t =
 pub sound-ready : (ws low roles users : List ℕ) → So (sound ws) → Indexed (stateOf ws) low roles users → Ready ws low users
 sound-ready ws low roles users h ix = record { limits = sound-limits ws h; afresh = sound-built ws h; roles = roles; indexed = ix }
 
-pub sound-exact : (ws : List ℕ) (q : Counts) → So (sound ws) → countsOf q ≡ counted (getD ws 2 0) (rowsOf ws) (setAt 2 ws 4) → Exact ws q
+pub sound-exact : (ws : List ℕ) (q : Counts) → So (sound ws) → countsOf q ≡ counted (getD ws 2 0) (roleRowsOf ws) (setAt 2 ws 4) → Exact ws q
 sound-exact ws q h e = e ∙ sound-counts ws h

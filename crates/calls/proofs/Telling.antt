@@ -10,7 +10,7 @@ use Rattle.sets.specs.Truth.{isnt, if_then_else_}
 use Rattle.sets.proofs.Truth.{not-So, eqb-iff, if-true, if-false, if-passes, if-stops}
 use Rattle.model.specs.Record.{sound}
 use Rattle.model.specs.Calls.{unfit, told}
-use Rattle.model.proofs.Claim.{sound-unfit}
+use Rattle.model.proofs.Refusals.{unfit-iff}
 
 pub told-refused : (k code value : ℕ) → k ≢ 0 → code ≡ k → told code value ≡ record { code = k; value = 0 }
 unfolding told
@@ -26,4 +26,4 @@ pub bad-record : (a k rest : ℕ) → k ≢ 0 → a ≡ k → (if isnt (eqb a 0)
 bad-record a k rest d e = if-stops (eqb a 0) a rest (not-So (eqb a 0) (λ h. d (sym e ∙ eqb-iff a 0 .0 h))) ∙ e
 
 pub good-record : (ws : List ℕ) (rest : ℕ) → So (sound ws) → (if isnt (eqb (unfit ws) 0) then unfit ws else rest) ≡ rest
-good-record ws rest h = if-passes (eqb (unfit ws) 0) (unfit ws) rest (eqb-iff (unfit ws) 0 .1 (sound-unfit ws h))
+good-record ws rest h = if-passes (eqb (unfit ws) 0) (unfit ws) rest (eqb-iff (unfit ws) 0 .1 (unfit-iff ws h))

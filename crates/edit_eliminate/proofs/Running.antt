@@ -24,7 +24,7 @@ use Rattle.model.specs.Machine.{Run, takeUp, takeUpAll, foremost, pass, passes,
 use Rattle.model.specs.Record.{setsStart, built, stateOf, Limits}
 use Rattle.model.specs.State.{State, rolesOf}
 use Rattle.model.proofs.Reading.{strikables-iff, strikable-stands}
-use Rattle.model.proofs.Elimination.{pass-examined}
+use Rattle.model.proofs.Passes.{pass-examined}
 use Rattle.indexes.specs.Tables.{Indexed}
 use Rattle.tables.specs.Tables.{Holds}
 use Rattle.edit_test.specs.Sparing.{HoldsFor}

@@ -18,7 +18,7 @@ use Rattle.model.specs.Hierarchy.{Roles, candidateCount}
 use Rattle.model.specs.Quality.{Weights, quality}
 use Rattle.model.specs.Machine as model
 use Rattle.model.specs.Coverage.{strikables}
-use Rattle.model.specs.Machine.{Run, dropped, struck, kept, takeUp, takeUpAll, foremost, redundancy}
+use Rattle.model.specs.Machine.{Run, takeUp, takeUpAll, foremost, redundancy, afterDrop, afterStrike, afterStay}
 use Rattle.model.specs.Record.{stateOf}
 use Rattle.model.specs.State.{State, rolesOf, standingNow}
 use Rattle.model.proofs.Elimination.{take-up, examined-one}
@@ -37,13 +37,13 @@ use Rattle.edit_eliminate.specs.Passing.{Searched, Stand}
 module _ (ρ : Roles) (w : Weights) (t : model.Tolerance) (k : ℕ) (r : Run) where
   -- the others stand as they did
   pub up-standing : (i : ℕ) → So (has (r .standing) i) → i ≢ k → So (has (takeUp ρ w t k r .standing) i)
-  unfolding dropped struck kept
+  unfolding afterDrop afterStrike afterStay
   up-standing i h d =
       take-up ρ w t k r (λ _ e. rw e h) (λ _ _ e. rw e (∖-iff (r .standing) (single k) i .1 (h, λ x. d (sym (single-iff k i .0 x))))) (λ _ _ e. rw e h)
 
   -- what is listed stands
   pub up-listed : Stand (r .worklist) (r .standing) → Stand (takeUp ρ w t k r .worklist) (takeUp ρ w t k r .standing)
-  unfolding dropped struck kept
+  unfolding afterDrop afterStrike afterStay
   up-listed inv =
       take-up ρ w t k r (λ _ e. rw e (λ i h. inv i (∖-iff (r .worklist) (single k) i .0 h .0)))
       (λ _ _ e.
@@ -52,13 +52,13 @@ module _ (ρ : Roles) (w : Weights) (t : model.Tolerance) (k : ℕ) (r : Run) wh
 
   -- and is no more than was
   pub up-fewer : (i : ℕ) → So (has (takeUp ρ w t k r .worklist) i) → So (has (r .worklist) i)
-  unfolding dropped struck kept
+  unfolding afterDrop afterStrike afterStay
   up-fewer i =
       take-up ρ w t k r (λ _ e. rw e (λ h. ∖-iff (r .worklist) (single k) i .0 h .0)) (λ _ _ e. rw e (λ h. ∖-iff (r .worklist) (single k) i .0 h .0))
       (λ _ _ e. rw e (λ h. h))
 
   pub up-changed : takeUp ρ w t k r .changed ≤ suc (r .changed)
-  unfolding dropped struck kept
+  unfolding afterDrop afterStrike afterStay
   up-changed = take-up ρ w t k r (λ _ e. rw e (omega arith)) (λ _ _ e. rw e (omega arith)) (λ _ _ e. rw e (omega arith))
 
 -- what stands is below c, and at most 128 roles

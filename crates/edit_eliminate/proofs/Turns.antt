@@ -17,7 +17,7 @@ use Rattle.model.specs.Coverage.{strikable}
 use Rattle.model.specs.Indexes.{rolesOfPermission}
 use Rattle.model.specs.Quality.{Weights, quality}
 use Rattle.model.specs.Machine as model
-use Rattle.model.specs.Machine.{dropped, struck, kept, takeUp}
+use Rattle.model.specs.Machine.{takeUp, afterDrop, afterStrike, afterStay}
 use Rattle.model.specs.Record.{built, stateOf, Limits}
 use Rattle.model.specs.State.{State, rolesOf, standingNow}
 use Rattle.model.proofs.Record.{directPermissions-lt}
@@ -67,7 +67,7 @@ module _ (ws : List ℕ) (at : Progress) (w : Weights) (t : Tolerance) (k wl : �
   pub turn-dropped : s ≡ false → (g : Progress) (wl' : ℕ)
       → (g .counts ≡ at .counts) × (g .quality ≡ at .quality) × (g .changed ≡ at .changed) × (g .examined ≡ at .examined + 1) → wl' ≡ wl ∖ single k
       → runAt ws g wl' ≡ takeUp (rolesOf (stateOf ws)) w (toleranceIn t) k (runAt ws at wl)
-  unfolding runAt takeUp dropped
+  unfolding runAt takeUp afterDrop
   turn-dropped cannot g wl' e el =
       let examined : g .examined ≡ suc (at .examined) = e .3 ∙ add-one (at .examined) in
       (λ i. record { standing = stateOf ws .standing; worklist = el i; reference = e .1 i; changed = e .2 i; examined = examined i })
@@ -83,7 +83,7 @@ module _ (ws : List ℕ) (at : Progress) (w : Weights) (t : Tolerance) (k wl : �
     pub turn-struck : t .denominator * q < t .numerator * at .quality → (after : List ℕ) (g : Progress) (wl' : ℕ)
         → stateOf after ≡ standingNow (stateOf ws) (stateOf ws .standing ∖ single k) → g .quality ≡ q → g .changed ≡ at .changed + 1 → g .examined ≡ at .examined + 1
         → wl' ≡ wl ∖ single k → runAt after g wl' ≡ takeUp (rolesOf (stateOf ws)) w (toleranceIn t) k (runAt ws at wl)
-    unfolding runAt takeUp struck toleranceIn
+    unfolding runAt takeUp afterStrike toleranceIn
     turn-struck l after g wl' es er ec ee el =
         let S = stateOf ws .standing ∖ single k in
         let now : stateOf after .standing ≡ S = ap (λ (st : State). st .standing) es ∙ standing-now (stateOf ws) S in
@@ -97,7 +97,7 @@ module _ (ws : List ℕ) (at : Progress) (w : Weights) (t : Tolerance) (k wl : �
     pub turn-kept : t .numerator * at .quality ≤ t .denominator * q → (after : List ℕ) (g : Progress) → after ≡ ws
         → (g .counts ≡ at .counts) × (g .quality ≡ at .quality) × (g .changed ≡ at .changed) × (g .examined ≡ at .examined + 1)
         → runAt after g wl ≡ takeUp (rolesOf (stateOf ws)) w (toleranceIn t) k (runAt ws at wl)
-    unfolding runAt takeUp kept toleranceIn
+    unfolding runAt takeUp afterStay toleranceIn
     turn-kept l after g es e =
         let examined : g .examined ≡ suc (at .examined) = e .3 ∙ add-one (at .examined) in
         let test = ltb (t .denominator * q') (t .numerator * at .quality) in

@@ -13,7 +13,7 @@ use Rattle.sets.specs.Sets.{has, _∪_, single}
 use Rattle.sets.proofs.Truth.{by-test, not-So, ltb-iff, eqb-iff, if-true, if-false}
 use Rattle.model.specs.Hierarchy.{Roles, candidateCount}
 use Rattle.model.specs.Quality.{Weights, quality}
-use Rattle.model.specs.Machine.{Run, kept, restored, tryRestore, reviewTo, reviewPasses, reviewed, begin}
+use Rattle.model.specs.Machine.{Run, tryRestore, reviewTo, reviewPasses, reviewed, begin, afterStay, afterRestore}
 use Rattle.model.specs.Record.{stateOf}
 use Rattle.model.specs.State.{State, rolesOf, standingNow}
 use Rattle.model.proofs.Steps.{standing-now}
@@ -33,7 +33,7 @@ module _ (ws : List ℕ) (at : Progress) (w : Weights) (k : ℕ) where
     pub turn-restored : q < at .quality → (after : List ℕ) (r : Progress) → stateOf after ≡ standingNow (stateOf ws) (stateOf ws .standing ∪ single k)
         → r .quality ≡ q → r .changed ≡ at .changed + 1 → r .examined ≡ at .examined + 1
         → (worklist : ℕ) → runAt after r worklist ≡ tryRestore (rolesOf (stateOf ws)) w k (runAt ws at worklist)
-    unfolding runAt tryRestore restored
+    unfolding runAt tryRestore afterRestore
     turn-restored l after r es er ec ee worklist =
         let S = stateOf ws .standing ∪ single k in
         let now : stateOf after .standing ≡ S = ap (λ (st : State). st .standing) es ∙ standing-now (stateOf ws) S in
@@ -46,7 +46,7 @@ module _ (ws : List ℕ) (at : Progress) (w : Weights) (k : ℕ) where
 
     pub turn-kept : at .quality ≤ q → (after : List ℕ) (r : Progress) → after ≡ ws → r .quality ≡ at .quality → r .changed ≡ at .changed → r .examined ≡ at .examined + 1
         → (worklist : ℕ) → runAt after r worklist ≡ tryRestore (rolesOf (stateOf ws)) w k (runAt ws at worklist)
-    unfolding runAt tryRestore kept
+    unfolding runAt tryRestore afterStay
     turn-kept l after r es er ec ee worklist =
         let S = stateOf ws .standing ∪ single k in
         let examined : r .examined ≡ suc (at .examined) = ee ∙ add-one (at .examined) in
@@ -57,16 +57,16 @@ module _ (ws : List ℕ) (at : Progress) (w : Weights) (k : ℕ) where
 
 -- how much a turn counts
 turn-counts : (ρ : Roles) (w : Weights) (k : ℕ) (r : Run) → (tryRestore ρ w k r .changed ≤ suc (r .changed)) × (tryRestore ρ w k r .examined ≤ suc (r .examined))
-unfolding tryRestore restored kept
+unfolding tryRestore afterRestore afterStay
 turn-counts ρ w k r =
     let q = quality ρ w (r .standing ∪ single k) in
     by-test (has (r .standing) k)
-    (λ h. rw (if-true (has (r .standing) k) r (if ltb q (r .reference) then restored k q r else kept r) h) (omega arith, omega arith))
+    (λ h. rw (if-true (has (r .standing) k) r (if ltb q (r .reference) then afterRestore k q r else afterStay r) h) (omega arith, omega arith))
     (λ h.
-    rw (if-false (has (r .standing) k) r (if ltb q (r .reference) then restored k q r else kept r) h)
+    rw (if-false (has (r .standing) k) r (if ltb q (r .reference) then afterRestore k q r else afterStay r) h)
     (by-test (ltb q (r .reference))
-    (λ g. rw (if-true (ltb q (r .reference)) (restored k q r) (kept r) g) (omega arith, omega arith))
-    (λ g. rw (if-false (ltb q (r .reference)) (restored k q r) (kept r) g) (omega arith, omega arith))))
+    (λ g. rw (if-true (ltb q (r .reference)) (afterRestore k q r) (afterStay r) g) (omega arith, omega arith))
+    (λ g. rw (if-false (ltb q (r .reference)) (afterRestore k q r) (afterStay r) g) (omega arith, omega arith))))
 
 -- ---- a pass
 

@@ -17,7 +17,7 @@ use Rattle.model.specs.Hierarchy.{Roles, candidateCount, permissionSet, directM
 use Rattle.model.specs.Coverage.{grant, covered, strikable}
 use Rattle.model.specs.Indexes.{rolesOfUser, rolesOfPermission}
 use Rattle.model.proofs.Reading.{Ordered, member-iff, permission-iff}
-use Rattle.model.proofs.Changes.{strikable-direct}
+use Rattle.model.proofs.Spared.{strikable-direct}
 use Rattle.model.proofs.Shortcuts.{covered-index}
 use Rattle.tables.specs.Tables.{Holds}
 use Rattle.tables.proofs.Tables.{HeldBut}

@@ -14,16 +14,17 @@ use Rattle.sets.specs.Truth.{if_then_else_}
 use Rattle.sets.specs.Sets.{has}
 use Rattle.sets.proofs.Truth.{if-true, if-passes, eqb-iff, ltb-iff}
 use Rattle.model.specs.Lists.{setAt}
-use Rattle.model.specs.Hierarchy.{Rows, candidateCount, permissionSet, directPermissions, directMembers, immediateJuniors, building}
+use Rattle.model.specs.Hierarchy.{candidateCount, permissionSet, directPermissions, directMembers, immediateJuniors, building, RoleRows}
 use Rattle.model.specs.Quality.{Weights, weightsAllowed, counted, counts, weigh, quality}
 use Rattle.model.specs.State.{State, rolesOf}
-use Rattle.model.specs.Record.{built, stateOf, rowsOf, sound, juniorsStart, membersStart, permissionsStart, setsStart, Limits}
+use Rattle.model.specs.Record.{built, stateOf, sound, juniorsStart, membersStart, permissionsStart, setsStart, Limits, roleRowsOf}
 use Rattle.model.specs.Machine.Call.{eliminate, review}
 use Rattle.model.specs.Claim.{wordsAfter}
 use Rattle.model.specs.Calls.{Edited, Told, edit, unfit, told, qualityOf}
 use Rattle.model.proofs.Record.{sound-iff, read-users, read-permissions, read-count, read-set, rows-back}
 use Rattle.model.proofs.Bounds.{weightsAllowed-iff}
-use Rattle.model.proofs.Claim.{claim, sound-unfit}
+use Rattle.model.proofs.Refusals.{unfit-iff}
+use Rattle.model.proofs.Claim.{claim}
 use Rattle.indexes.proofs.Sources.{narrow}
 use Rattle.quality.specs.Reading.{weightsOf}
 use Rattle.stores.specs.Stores.{putAt}
@@ -63,7 +64,7 @@ row-set : (ws : List ℕ) (k c : ℕ) (s : ℕ) → k < c → getD ws 2 0 ≡ c 
 row-set ws k c s l e = if-true (ltb k (getD ws 2 0)) s 0 (ltb-iff k (getD ws 2 0) .1 (rw e l))
 
 built-line : (st : State) → Limits st → (k : ℕ) → k < candidateCount (rolesOf st) → wordsLine (built st) k ≡ roleLine st k
-unfolding wordsLine roleLine rowsOf building rolesOf
+unfolding wordsLine roleLine roleRowsOf building rolesOf
 built-line st lim k l =
     let few : k < 128 = lt-of-lt-of-le l (lim .candidates-most) in
     let c = read-count st lim in
@@ -71,11 +72,11 @@ built-line st lim k l =
     let s : setAt 4 (built st) (setsStart + 4 * k) ≡ permissionSet (rolesOf st) k =
     read-set st lim k few (lt-of-lt-of-le (narrow st lim .inside k l) (pow-mono (lim .permissions-most))) in
     let p : setAt 4 (built st) (permissionsStart + 4 * k) ≡ directPermissions (rolesOf st) (st .standing) k =
-    sym (row-set (built st) k (candidateCount (rolesOf st)) (setAt 4 (built st) (permissionsStart + 4 * k)) l c) ∙ ap (λ (x : Rows). x .permissions k) b in
+    sym (row-set (built st) k (candidateCount (rolesOf st)) (setAt 4 (built st) (permissionsStart + 4 * k)) l c) ∙ ap (λ (x : RoleRows). x .permissions k) b in
     let u : setAt 2 (built st) (membersStart + 2 * k) ≡ directMembers (rolesOf st) (st .standing) k =
-    sym (row-set (built st) k (candidateCount (rolesOf st)) (setAt 2 (built st) (membersStart + 2 * k)) l c) ∙ ap (λ (x : Rows). x .members k) b in
+    sym (row-set (built st) k (candidateCount (rolesOf st)) (setAt 2 (built st) (membersStart + 2 * k)) l c) ∙ ap (λ (x : RoleRows). x .members k) b in
     let j : setAt 2 (built st) (juniorsStart + 2 * k) ≡ immediateJuniors (rolesOf st) (st .standing) k =
-    sym (row-set (built st) k (candidateCount (rolesOf st)) (setAt 2 (built st) (juniorsStart + 2 * k)) l c) ∙ ap (λ (x : Rows). x .juniors k) b in
+    sym (row-set (built st) k (candidateCount (rolesOf st)) (setAt 2 (built st) (juniorsStart + 2 * k)) l c) ∙ ap (λ (x : RoleRows). x .juniors k) b in
     λ i. line (read-users st lim i) (read-permissions st lim i) (c i) k (s i) (p i) (u i) (j i)
 
 lines-same : (R : ℕ) (f g : ℕ → List ℕ) (k : ℕ) → ((i : ℕ) → i < k → f i ≡ g i) → linesTo R f k ≡ linesTo R g k
@@ -112,10 +113,10 @@ unfolding told
 told-value code v e = ap (λ (t : Told). t .value) (if-true (eqb code 0) _ _ (eqb-iff code 0 .1 e))
 
 sound-quality : (ws : List ℕ) (w : Weights) → So (sound ws) → So (weightsAllowed w)
-    → qualityOf ws w .value ≡ weigh w (counted (candidateCount (rolesOf (stateOf ws))) (rowsOf ws) (stateOf ws .standing))
+    → qualityOf ws w .value ≡ weigh w (counted (candidateCount (rolesOf (stateOf ws))) (roleRowsOf ws) (stateOf ws .standing))
 unfolding qualityOf
 sound-quality ws w h ok =
-    told-value _ _ (if-passes (eqb (unfit ws) 0) (unfit ws) _ (eqb-iff (unfit ws) 0 .1 (sound-unfit ws h)) ∙ if-passes (weightsAllowed w) 9 0 ok)
+    told-value _ _ (if-passes (eqb (unfit ws) 0) (unfit ws) _ (eqb-iff (unfit ws) 0 .1 (unfit-iff ws h)) ∙ if-passes (weightsAllowed w) 9 0 ok)
 
 pub quality-is : (ws : List ℕ) (r : QualityAnswer) → So (sound ws) → qualityTold r ≡ qualityOf ws (weightsOf 1 1 1 1)
     → r .quality ≡ quality (rolesOf (stateOf ws)) plainWeights (stateOf ws .standing)
@@ -123,9 +124,9 @@ unfolding qualityTold quality counts weightsOf plainWeights
 quality-is ws r h e =
     let s = sound-iff ws .0 h in
     let st = stateOf ws in
-    let b : rowsOf ws ≡ building (rolesOf st) (st .standing) = ap rowsOf (s .3) ∙ rows-back st (s .1) in
+    let b : roleRowsOf ws ≡ building (rolesOf st) (st .standing) = ap roleRowsOf (s .3) ∙ rows-back st (s .1) in
     ap (λ (t : Told). t .value) e ∙ sound-quality ws (weightsOf 1 1 1 1) h plain-allowed
-    ∙ ap (λ (x : Rows). weigh plainWeights (counted (candidateCount (rolesOf st)) x (st .standing))) b
+    ∙ ap (λ (x : RoleRows). weigh plainWeights (counted (candidateCount (rolesOf st)) x (st .standing))) b
 
 pub count-is : (ws : List ℕ) (n s : ℕ) → n ≡ ones s → s ≡ setAt 2 ws 4 → n ≡ ones (stateOf ws .standing)
 unfolding stateOf

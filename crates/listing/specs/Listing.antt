@@ -12,9 +12,9 @@ use Rattle.sets.specs.Sets.{has}
 use Rattle.model.specs.Lists.{rowsAt}
 use Rattle.model.specs.Candidates.{candidates}
 use Rattle.model.specs.Hierarchy.{candidateCount, permissionSet, directPermissions, directMembers, immediateJuniors}
-use Rattle.model.specs.Quality.{Weights, quality}
+use Rattle.model.specs.Quality.{Weights, quality, Tolerance}
 use Rattle.model.specs.State.{State, rolesOf, fresh}
-use Rattle.model.specs.Machine.{Tolerance, stateAfter}
+use Rattle.model.specs.Machine.{stateAfter}
 use Rattle.model.specs.Machine.Call.{eliminate, review}
 use Rattle.text.specs.Fixed.{comma, lineEnd}
 use Rattle.text.specs.Decimal.{decimal}

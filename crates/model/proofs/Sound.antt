@@ -14,26 +14,26 @@ use Rattle.model.specs.Hierarchy.{candidateCount, building}
 use Rattle.model.specs.Chains.{may, Authorised}
 use Rattle.model.specs.Quality.{counted, counts}
 use Rattle.model.specs.State.{rolesOf}
-use Rattle.model.specs.Record.{stateOf, rowsOf, sound, juniorsStart, membersStart, permissionsStart}
+use Rattle.model.specs.Record.{stateOf, sound, juniorsStart, membersStart, permissionsStart, roleRowsOf}
 use Rattle.model.proofs.Record.{read-count, rows-back, sound-built}
 use Rattle.model.proofs.Building.{building-below}
-use Rattle.model.proofs.Chains.{RowsBelow, may-iff}
+use Rattle.model.proofs.Chains.{may-iff, RoleRowsBelow}
 use Rattle.model.proofs.Steps.{limits-ordered}
 use Rattle.model.proofs.Claim.{sound-fit, words-authorised}
 
 -- ---- the rows of any record, below its number of roles
 
 module _ (ws : List ℕ) (k : ℕ) (l : k < getD ws 2 0) where
-  pub row-juniors : rowsOf ws .juniors k ≡ setAt 2 ws (juniorsStart + 2 * k)
-  unfolding rowsOf
+  pub row-juniors : roleRowsOf ws .juniors k ≡ setAt 2 ws (juniorsStart + 2 * k)
+  unfolding roleRowsOf
   row-juniors = if-true (ltb k (getD ws 2 0)) (setAt 2 ws (juniorsStart + 2 * k)) 0 (ltb-iff k (getD ws 2 0) .1 l)
 
-  pub row-permissions : rowsOf ws .permissions k ≡ setAt 4 ws (permissionsStart + 4 * k)
-  unfolding rowsOf
+  pub row-permissions : roleRowsOf ws .permissions k ≡ setAt 4 ws (permissionsStart + 4 * k)
+  unfolding roleRowsOf
   row-permissions = if-true (ltb k (getD ws 2 0)) (setAt 4 ws (permissionsStart + 4 * k)) 0 (ltb-iff k (getD ws 2 0) .1 l)
 
-  pub row-members : rowsOf ws .members k ≡ setAt 2 ws (membersStart + 2 * k)
-  unfolding rowsOf
+  pub row-members : roleRowsOf ws .members k ≡ setAt 2 ws (membersStart + 2 * k)
+  unfolding roleRowsOf
   row-members = if-true (ltb k (getD ws 2 0)) (setAt 2 ws (membersStart + 2 * k)) 0 (ltb-iff k (getD ws 2 0) .1 l)
 
 -- ---- a sound record
@@ -47,32 +47,32 @@ module _ (ws : List ℕ) (h : So (sound ws)) where
   sound-few = rw sound-count (sound-fit ws h .limits .candidates-most)
 
   -- the rows are those of the building
-  pub sound-rows : rowsOf ws ≡ building (rolesOf (stateOf ws)) (stateOf ws .standing)
-  sound-rows = ap rowsOf (sound-built ws h) ∙ rows-back (stateOf ws) (sound-fit ws h .limits)
+  pub sound-rows : roleRowsOf ws ≡ building (rolesOf (stateOf ws)) (stateOf ws .standing)
+  sound-rows = ap roleRowsOf (sound-built ws h) ∙ rows-back (stateOf ws) (sound-fit ws h .limits)
 
-  pub sound-below : RowsBelow (candidateCount (rolesOf (stateOf ws))) (rowsOf ws)
+  pub sound-below : RoleRowsBelow (candidateCount (rolesOf (stateOf ws))) (roleRowsOf ws)
   sound-below = rw sound-rows (building-below (rolesOf (stateOf ws)) (stateOf ws .standing) (limits-ordered (stateOf ws) (sound-fit ws h .limits)))
 
   -- the counts over the record's rows, as the quality call has them
-  pub counts-read : counted (getD ws 2 0) (rowsOf ws) (setAt 2 ws 4) ≡ counted (candidateCount (rolesOf (stateOf ws))) (rowsOf ws) (stateOf ws .standing)
+  pub counts-read : counted (getD ws 2 0) (roleRowsOf ws) (setAt 2 ws 4) ≡ counted (candidateCount (rolesOf (stateOf ws))) (roleRowsOf ws) (stateOf ws .standing)
   unfolding stateOf
   counts-read = rw sound-count refl
 
   -- and those of the building
-  pub sound-counts : counted (getD ws 2 0) (rowsOf ws) (setAt 2 ws 4) ≡ counts (rolesOf (stateOf ws)) (stateOf ws .standing)
+  pub sound-counts : counted (getD ws 2 0) (roleRowsOf ws) (setAt 2 ws 4) ≡ counts (rolesOf (stateOf ws)) (stateOf ws .standing)
   unfolding counts stateOf
   sound-counts = rw (sound-count, sound-rows) refl
 
   -- may, in the paper's own words
-  pub may-authorised : (u p : ℕ) → So (may (candidateCount (rolesOf (stateOf ws))) (rowsOf ws) u p) ↔ Authorised (rowsOf ws) u p
-  may-authorised u p = may-iff (candidateCount (rolesOf (stateOf ws))) (rowsOf ws) sound-below u p
+  pub may-authorised : (u p : ℕ) → So (may (candidateCount (rolesOf (stateOf ws))) (roleRowsOf ws) u p) ↔ Authorised (roleRowsOf ws) u p
+  may-authorised u p = may-iff (candidateCount (rolesOf (stateOf ws))) (roleRowsOf ws) sound-below u p
 
   -- and by the crew list
   pub may-granted : (u p : ℕ) → u < stateOf ws .users → p < stateOf ws .permissions
-      → So (may (candidateCount (rolesOf (stateOf ws))) (rowsOf ws) u p) ↔ So (has (getD (stateOf ws .rows) u 0) p)
+      → So (may (candidateCount (rolesOf (stateOf ws))) (roleRowsOf ws) u p) ↔ So (has (getD (stateOf ws .rows) u 0) p)
   may-granted u p lu lp =
       let a = may-authorised u p in
-      let b : Authorised (rowsOf ws) u p ↔ So (has (getD (stateOf ws .rows) u 0) p) =
-      subst (λ (l : List ℕ). Authorised (rowsOf l) u p ↔ So (has (getD (stateOf ws .rows) u 0) p)) (sym (sound-built ws h))
+      let b : Authorised (roleRowsOf ws) u p ↔ So (has (getD (stateOf ws .rows) u 0) p) =
+      subst (λ (l : List ℕ). Authorised (roleRowsOf l) u p ↔ So (has (getD (stateOf ws .rows) u 0) p)) (sym (sound-built ws h))
       (words-authorised (stateOf ws) (sound-fit ws h) u p lu lp) in
       (λ x. b .0 (a .0 x), λ x. a .1 (b .1 x))

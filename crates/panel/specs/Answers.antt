@@ -1,10 +1,10 @@
--- The answer of any call that edits, with the record as it leaves it, in the form in which the model gives it.
+-- The reply of any call that edits, with the record as it leaves it, in the form in which the model gives it.
 -- Assumes nothing.
 use mathlib.Core.List.{List}
 use Prim.Native.Nat.{ℕ}
-use Rattle.model.specs.Machine.{answer}
+use Rattle.model.specs.Machine.{reply}
 use Rattle.model.specs.Calls.{Edited}
 use Rattle.panel.specs.declared.list.Outcome.{Outcome}
 
 unfoldable pub outcome : Outcome → List ℕ → Edited
-outcome r ws = record { given = answer (r .code) (r .changed) (r .examined); words = ws }
+outcome r ws = record { replied = reply (r .code) (r .changed) (r .examined); words = ws }

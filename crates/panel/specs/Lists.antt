@@ -1,4 +1,4 @@
--- A list of calls as words, served one after the other; and condition 3 of it, one named clause for each part.
+-- A list of calls as words, served one after the linksBut; and condition 3 of it, one named clause for each part.
 -- Assumes nothing.
 use mathlib.Core.Path.{_≡_}
 use mathlib.Core.Bool.{Bool, So}
@@ -11,11 +11,11 @@ use Rattle.sets.specs.Truth.{_and_, if_then_else_, all}
 use Rattle.sets.specs.Sets.{has}
 use Rattle.model.specs.Lists.{rowsAt}
 use Rattle.model.specs.Candidates.{candidates}
-use Rattle.model.specs.Chains.{link, Chain, other, Authorised}
+use Rattle.model.specs.Chains.{link, Chain, Authorised, linksBut}
 use Rattle.model.specs.State.{State, rolesOf, fresh}
-use Rattle.model.specs.Record.{built, stateOf, rowsOf}
+use Rattle.model.specs.Record.{built, stateOf, roleRowsOf}
 use Rattle.model.specs.Altered.{Altered}
-use Rattle.model.specs.Machine.{Call, Answer, step, stateAfter, answersTo}
+use Rattle.model.specs.Machine.{Call, step, stateAfter, Reply, repliesTo}
 use Rattle.model.specs.Machine.Call.{strike, restore, eliminate, review}
 use Rattle.model.specs.Calls.{miningRefusal}
 use Rattle.model.specs.Claim.{wordsAfter}
@@ -43,13 +43,13 @@ callsFrom ws i (suc n) = callAt ws i ∷ callsFrom ws (i + 7) n
 unfoldable pub callsIn : List ℕ → List Call
 callsIn ws = callsFrom ws 0 (length ws / 7)
 
--- whole calls, each of a kind below 4, and three words for each answer
+-- whole calls, each of a kind below 4, and three words for each reply
 unfoldable pub readable : List ℕ → List ℕ → Bool
 readable ws out =
     eqb (7 * (length ws / 7)) (length ws) and eqb (length out) (3 * (length ws / 7)) and all (length ws / 7) (λ i. ltb (getD ws (7 * i) 0) 4)
 
 -- the answers as words: of each its number, and the two numbers beside it
-unfoldable pub answerWords : List Answer → List ℕ
+unfoldable pub answerWords : List Reply → List ℕ
 answerWords [] = []
 answerWords (a ∷ more) = a .code ∷ a .changed ∷ a .examined ∷ answerWords more
 
@@ -60,19 +60,19 @@ pub record Condition3 (st : State) (calls : List Call) (ws out : List ℕ) : Typ
   pub words : ws ≡ wordsAfter (built st) calls
   -- "the standing roles and all answers are the plain machine's"; the machine is fed kinds and numbers only
   pub standing : stateOf ws ≡ stateAfter st calls
-  pub answers : out ≡ answerWords (answersTo st calls)
+  pub answers : out ≡ answerWords (repliesTo st calls)
   -- "every word of the record is what building afresh gives"
   pub afresh : ws ≡ built (stateAfter st calls)
   -- "everyone is authorised for exactly what the crew list grants", by reach, from the record's own words
-  pub authorised : (u p : ℕ) → u < st .users → p < st .permissions → Authorised (rowsOf ws) u p ↔ So (has (getD (st .rows) u 0) p)
+  pub authorised : (u p : ℕ) → u < st .users → p < st .permissions → Authorised (roleRowsOf ws) u p ↔ So (has (getD (st .rows) u 0) p)
   -- "no chain of links returns to its start"
-  pub no-return : (k : ℕ) → Chain (link (rowsOf ws)) k k → ⊥
+  pub no-return : (k : ℕ) → Chain (link (roleRowsOf ws)) k k → ⊥
   -- "no link could be replaced by a chain"
-  pub no-replacement : (x y : ℕ) → So (link (rowsOf ws) x y) → Chain (other (link (rowsOf ws)) x y) x y → ⊥
+  pub no-replacement : (x y : ℕ) → So (link (roleRowsOf ws) x y) → Chain (linksBut (link (roleRowsOf ws)) x y) x y → ⊥
   -- "each strike or restoration altered only the marks and rows that 01 allows": for every prefix that ends in an accepted one
-  pub strikes-altered : (before rest : List Call) (k : ℕ) → calls ≡ before ++ (strike k ∷ rest) → step (stateAfter st before) (strike k) .given .code ≡ 0
+  pub strikes-altered : (before rest : List Call) (k : ℕ) → calls ≡ before ++ (strike k ∷ rest) → step (stateAfter st before) (strike k) .replied .code ≡ 0
       → Altered (rolesOf (stateAfter st before)) (stateAfter st before .standing) k (wordsAfter (built st) before) (wordsAfter (built st) (before ++ (strike k ∷ [])))
-  pub restorations-altered : (before rest : List Call) (k : ℕ) → calls ≡ before ++ (restore k ∷ rest) → step (stateAfter st before) (restore k) .given .code ≡ 0
+  pub restorations-altered : (before rest : List Call) (k : ℕ) → calls ≡ before ++ (restore k ∷ rest) → step (stateAfter st before) (restore k) .replied .code ≡ 0
       → Altered (rolesOf (stateAfter st before)) (stateAfter st (before ++ (restore k ∷ [])) .standing) k (wordsAfter (built st) before) (wordsAfter (built st) (before ++ (restore k ∷ [])))
 
 -- what serving a list leaves: the record and the answers are `ws` and `out` before, and `ws'` and `out'` after

@@ -4,7 +4,7 @@ ghost use mathlib.Core.Bool.{So};
 ghost use Prim.Native.Nat.{_+_, _*_, _/_, _≤_};
 ghost use lib.ListN.{length};
 ghost use Rattle.model.specs.Calls.{edit};
-ghost use Rattle.model.specs.Claim.{wordsAfter, answersGiven};
+ghost use Rattle.model.specs.Claim.{wordsAfter, repliesGiven};
 ghost use Rattle.panel.specs.Answers.{outcome};
 ghost use Rattle.panel.specs.Lists.{callAt, callsIn, readable, answerWords, ServedAs};
 use crate::exports::panel_eliminate;
@@ -99,7 +99,7 @@ fn serve_call(rec: &mut [u64], calls: &[u64], at: usize) -> Outcome
 // Makes all calls, each on the record as the one before left it, and writes every answer.
 fn serve_calls(rec: &mut [u64], calls: &[u64], out: &mut [u64])
     requires { ⌜ So (readable (now calls) (now out)) ⌝ }
-    ensures { λ r. ⌜ (now (rec .exit) ≡ wordsAfter (now (rec .entry)) (callsIn (now (calls .entry)))) × (now (out .exit) ≡ answerWords (answersGiven (now (rec .entry)) (callsIn (now (calls .entry))))) ⌝ }
+    ensures { λ r. ⌜ (now (rec .exit) ≡ wordsAfter (now (rec .entry)) (callsIn (now (calls .entry)))) × (now (out .exit) ≡ answerWords (repliesGiven (now (rec .entry)) (callsIn (now (calls .entry))))) ⌝ }
 {
     let count = calls.len() / CALL;
     let mut i = 0;

@@ -9,7 +9,7 @@ use lib.Dec.{leb}
 use Rattle.sets.proofs.Truth.{same-test, not-So, leb-iff}
 use Rattle.sets.proofs.Written.{both-test}
 use Rattle.model.specs.Quality as model
-use Rattle.model.specs.Machine.{toleranceAllowed}
+use Rattle.model.specs.Quality.{toleranceAllowed}
 use Rattle.model.proofs.Bounds.{weightsAllowed-iff, tolerance-iff}
 use Rattle.quality.specs.declared.counts.Counts.{Counts}
 use Rattle.quality.specs.declared.weights.Weights.{Weights}

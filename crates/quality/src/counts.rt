@@ -5,7 +5,7 @@ ghost use lib.Count.{ones};
 ghost use lib.ListN.{length, getD};
 ghost use Rattle.sets.specs.Truth.{total};
 ghost use Rattle.model.specs.Lists.{setAt};
-ghost use Rattle.model.specs.Record.{recordLength, rowsOf};
+ghost use Rattle.model.specs.Record.{recordLength, roleRowsOf};
 ghost use Rattle.model.specs.Quality as model;
 ghost use Rattle.quality.specs.Numbers.{countsIn, mostMembers, mostPermissions, mostLinks, Few};
 use tables::JUNIORS;
@@ -26,7 +26,7 @@ pub struct Counts {
 // The counts over the rows of the record's roles.
 pub fn count_rows(rec: &[u64]) -> Counts
     requires { ⌜ (length (now rec) ≡ recordLength) × (getD (now rec) 2 0 ≤ 128) ⌝ }
-    ensures { λ r. ⌜ (countsIn r ≡ model.counted (getD (now (rec .entry)) 2 0) (rowsOf (now (rec .entry))) (setAt 2 (now (rec .entry)) 4)) × Few r ⌝ }
+    ensures { λ r. ⌜ (countsIn r ≡ model.counted (getD (now (rec .entry)) 2 0) (roleRowsOf (now (rec .entry))) (setAt 2 (now (rec .entry)) 4)) × Few r ⌝ }
 {
     let c = rec[2] as usize;
     let roles = load128(rec, STANDING).count();

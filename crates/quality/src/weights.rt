@@ -3,7 +3,7 @@ ghost use mathlib.Core.Path.{_≡_};
 ghost use mathlib.Core.Bool.{So};
 ghost use Prim.Native.Nat.{_≤_};
 ghost use Rattle.model.specs.Quality as model;
-ghost use Rattle.model.specs.Machine.{toleranceAllowed};
+ghost use Rattle.model.specs.Quality.{toleranceAllowed};
 ghost use Rattle.quality.specs.Numbers.{countsIn, weightsIn, toleranceIn, mostQuality, Few};
 use crate::counts::Counts;
 

@@ -7,7 +7,7 @@ use native.Mathlib.Omega.{arith}
 use lib.ListN.{length, getD, take, drop}
 use Rattle.sets.specs.Sets.{has, collect}
 use Rattle.model.specs.Lists.{setAt}
-use Rattle.model.specs.Hierarchy.{Rows, candidateCount}
+use Rattle.model.specs.Hierarchy.{candidateCount, RoleRows}
 use Rattle.model.specs.Record.{juniorsStart, headerWord, built, Limits}
 use Rattle.model.specs.State.{State, rolesOf}
 use Rattle.model.proofs.Lists.{setAt-words}
@@ -32,11 +32,11 @@ module _ (st : State) (lim : Limits st) (index first : List ℕ) (b : Begun st f
       (λ j l. b .headed .head (4 + j) (omega arith) ∙ rw (now-same st) at (marks st (st .standing) j l))
 
   pub rows-built : (R : ℕ) (second third before seniors : List ℕ) → R ≡ setAt 2 first 4
-      → ((old : Rows) (st : State) (t : ℕ) → Target st R index → Partway old st R R t first → Partway old st 0 0 t second)
+      → ((old : RoleRows) (st : State) (t : ℕ) → Target st R index → Partway old st R R t first → Partway old st 0 0 t second)
       → ((i : ℕ) → getD before i 0 ≡ 0)
       → Filled 2 (getD first 2 0) (λ j. collect (getD first 2 0) (λ i. has (setAt 2 (take 256 (drop juniorsStart second)) (2 * i)) j)) before seniors
       → length seniors ≡ 256
-      → ((old : Rows) (st : State) (p : ℕ) → Target st R index → Linked second seniors → Partway old st 0 p R second → Partway old st 0 p 0 third × Linked third seniors)
+      → ((old : RoleRows) (st : State) (p : ℕ) → Target st R index → Linked second seniors → Partway old st 0 p R second → Partway old st 0 p 0 third × Linked third seniors)
       → (third ≡ built st) × Linked third seniors
   rows-built R second third before seniors eR uppers zero filled size lowers =
       let ρ = rolesOf st in

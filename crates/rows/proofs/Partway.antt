@@ -11,7 +11,7 @@ use Rattle.sets.specs.Words.{word}
 use Rattle.sets.proofs.Truth.{either}
 use Rattle.sets.proofs.Items.{digit}
 use Rattle.sets.proofs.Words.{word-zero}
-use Rattle.model.specs.Hierarchy.{Roles, Rows, immediateJuniors, directPermissions, directMembers, building}
+use Rattle.model.specs.Hierarchy.{Roles, immediateJuniors, directPermissions, directMembers, building, RoleRows}
 use Rattle.model.specs.Record.{recordLength, crewStart, setsStart, permissionsStart, membersStart, juniorsStart, headerWord, wordAt, built}
 use Rattle.model.specs.State.{State, rolesOf, standingNow}
 use Rattle.model.proofs.Lists.{tabulate-is}
@@ -27,7 +27,7 @@ use Rattle.rows.proofs.Regions.{still-all, still-done, still-other, sti
 
 -- ---- one row
 
-module _ (old : Rows) (st : State) (s p t k x : ℕ) (ws : List ℕ) (lk : k < 128) (q : Partway old st s p t ws) where
+module _ (old : RoleRows) (st : State) (s p t k x : ℕ) (ws : List ℕ) (lk : k < 128) (q : Partway old st s p t ws) where
   headed-kept : (at v : ℕ) → permissionsStart ≤ at → Headed st (putAt ws at (wordsOf v x))
   headed-kept at v l =
       let h = q .headed in
@@ -150,7 +150,7 @@ module _ (st : State) (R s t : ℕ) (ws : List ℕ) (e : ws ≡ built st) where
 
 -- ---- the start of a record built afresh: no role has a row
 
-abbrev pub noRows : Rows
+abbrev pub noRows : RoleRows
 noRows = record { juniors = λ k. 0; permissions = λ k. 0; members = λ k. 0 }
 
 pub begun : (st : State) (ws : List ℕ) → Begun st ws → Partway noRows st (st .standing) (st .standing) (st .standing) ws
@@ -168,7 +168,7 @@ begun st ws b =
 
 -- ---- the end: nothing is old
 
-pub finished : (old : Rows) (st : State) (ws : List ℕ) → Partway old st 0 0 0 ws → ws ≡ built st
+pub finished : (old : RoleRows) (st : State) (ws : List ℕ) → Partway old st 0 0 0 ws → ws ≡ built st
 unfolding built
 finished old st ws q =
     let ρ = rolesOf st in

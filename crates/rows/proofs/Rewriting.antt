@@ -10,7 +10,7 @@ use lib.Pow.{pow-mono}
 use Rattle.sets.specs.Sets.{has, _∖_, single, collect}
 use Rattle.sets.specs.Words.{word}
 use Rattle.model.specs.Lists.{setAt}
-use Rattle.model.specs.Hierarchy.{Roles, Rows, candidateCount, permissionSet, immediateJuniors, directPermissions, directMembers}
+use Rattle.model.specs.Hierarchy.{Roles, candidateCount, permissionSet, immediateJuniors, directPermissions, directMembers, RoleRows}
 use Rattle.model.specs.Record.{setsStart, permissionsStart, membersStart, juniorsStart}
 use Rattle.model.specs.State.{State, rolesOf}
 use Rattle.model.proofs.Lists.{setAt-same}
@@ -27,7 +27,7 @@ use Rattle.rows.proofs.Regions.{still-other, still-none, region-holds, 
 use Rattle.rows.proofs.Partway.{juniors-stored, permissions-stored, members-stored}
 use Rattle.rows.proofs.Linking.{linked-same, seniors-held}
 
-module _ (old : Rows) (st : State) (p t R : ℕ) (index ws : List ℕ) (to : Target st R index) where
+module _ (old : RoleRows) (st : State) (p t R : ℕ) (index ws : List ℕ) (to : Target st R index) where
   abbrev ρ : Roles
   ρ = rolesOf st
 
@@ -70,7 +70,7 @@ module _ (old : Rows) (st : State) (p t R : ℕ) (index ws : List ℕ) (to : Tar
 
 -- ---- what is left of the juniors: entries that are old, or new, in both records
 
-module _ (old : Rows) (st : State) (s p t s' p' t' : ℕ) (ws ws' : List ℕ) (q : Partway old st s p t ws) (q' : Partway old st s' p' t' ws') where
+module _ (old : RoleRows) (st : State) (s p t s' p' t' : ℕ) (ws ws' : List ℕ) (q : Partway old st s p t ws) (q' : Partway old st s' p' t' ws') where
   juniors-kept : (i : ℕ) → i < 128
       → still s' (old .juniors) (immediateJuniors (rolesOf st) (st .standing)) i ≡ still s (old .juniors) (immediateJuniors (rolesOf st) (st .standing)) i
       → juniorsIn ws' i ≡ juniorsIn ws i
@@ -79,13 +79,13 @@ module _ (old : Rows) (st : State) (s p t s' p' t' : ℕ) (ws ws' : List ℕ) (q
       (λ j lj. q' .juniors i j li lj ∙ ap (λ (x : ℕ). word x j) e ∙ sym (q .juniors i j li lj))
 
 -- no role's juniors were rewritten
-pub linked-still : (old : Rows) (st : State) (s p t p' t' : ℕ) (ws ws' seniors : List ℕ) → Partway old st s p t ws → Partway old st s p' t' ws'
+pub linked-still : (old : RoleRows) (st : State) (s p t p' t' : ℕ) (ws ws' seniors : List ℕ) → Partway old st s p t ws → Partway old st s p' t' ws'
     → Linked ws seniors → Linked ws' seniors
 linked-still old st s p t p' t' ws ws' seniors q q' =
     linked-same ws ws' seniors (λ i li. juniors-kept old st s p t s p' t' ws ws' q q' i li refl)
 
 -- those of i were, and the table was altered with them
-pub linked-upper : (old : Rows) (st : State) (s p t p' t' i had has' : ℕ) (ws ws' seniors seniors' : List ℕ)
+pub linked-upper : (old : RoleRows) (st : State) (s p t p' t' i had has' : ℕ) (ws ws' seniors seniors' : List ℕ)
     → Partway old st s p t ws → Partway old st (s ∖ single i) p' t' ws' → had ≡ juniorsIn ws i → has' ≡ juniorsIn ws' i
     → ((f g : ℕ → ℕ) → Turned f seniors → had ≡ f i → has' ≡ g i → ((a : ℕ) → a < 128 → a ≢ i → g a ≡ f a) → Turned g seniors')
     → length seniors' ≡ 256 → Linked ws seniors → Linked ws' seniors'

@@ -7,7 +7,7 @@ use lib.ListN.{length, getD}
 use Rattle.sets.specs.Truth.{if_then_else_}
 use Rattle.sets.specs.Sets.{has}
 use Rattle.sets.specs.Words.{word}
-use Rattle.model.specs.Hierarchy.{Rows, permissionSet, immediateJuniors, directPermissions, directMembers}
+use Rattle.model.specs.Hierarchy.{permissionSet, immediateJuniors, directPermissions, directMembers, RoleRows}
 use Rattle.model.specs.Record.{recordLength, crewStart, setsStart, permissionsStart, membersStart, juniorsStart, headerWord, Limits}
 use Rattle.model.specs.State.{State, rolesOf}
 use Rattle.indexes.specs.Index.{Indexed}
@@ -29,7 +29,7 @@ pub record Headed (st : State) (ws : List ℕ) : Type 0 where
 
 -- the record built from a state, but that the roles of s still have their old immediate juniors, those of p their old direct permissions, and
 -- those of t their old direct members
-pub record Partway (old : Rows) (st : State) (s p t : ℕ) (ws : List ℕ) : Type 0 where
+pub record Partway (old : RoleRows) (st : State) (s p t : ℕ) (ws : List ℕ) : Type 0 where
   pub headed : Headed st ws
   pub permissions : Region 4 permissionsStart (still p (old .permissions) (directPermissions (rolesOf st) (st .standing))) ws
   pub members : Region 2 membersStart (still t (old .members) (directMembers (rolesOf st) (st .standing))) ws

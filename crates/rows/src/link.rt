@@ -6,7 +6,7 @@ ghost use lib.ListN.{length};
 ghost use Rattle.sets.specs.Held.{set128};
 ghost use Rattle.sets.specs.Sets.{_∪_, _∖_, single};
 ghost use Rattle.sets.specs.Truth.{if_then_else_};
-ghost use Rattle.model.specs.Hierarchy.{Rows};
+ghost use Rattle.model.specs.Hierarchy.{RoleRows};
 ghost use Rattle.model.specs.Record.{recordLength};
 ghost use Rattle.model.specs.State.{State};
 ghost use Rattle.indexes.specs.Index.{indexLength};
@@ -52,7 +52,7 @@ fn relink_upper(rec: &mut [u64], index: &[u64], seniors: &mut [u64], standing: S
     requires { ⌜ length (now index) ≡ indexLength ⌝ }
     requires { ⌜ length (now seniors) ≡ 256 ⌝ }
     requires { ⌜ i < 128 ⌝ }
-    ensures { λ r. ⌜ ((old : Rows) (st : State) (s p t : ℕ) → Target st (set128 standing) (now (index .entry)) → Partway old st s p t (now (rec .entry)) → Linked (now (rec .entry)) (now (seniors .entry)) → Partway old st (s ∖ single i) (p ∖ single i) t (now (rec .exit)) × Linked (now (rec .exit)) (now (seniors .exit))) ⌝ }
+    ensures { λ r. ⌜ ((old : RoleRows) (st : State) (s p t : ℕ) → Target st (set128 standing) (now (index .entry)) → Partway old st s p t (now (rec .entry)) → Linked (now (rec .entry)) (now (seniors .entry)) → Partway old st (s ∖ single i) (p ∖ single i) t (now (rec .exit)) × Linked (now (rec .exit)) (now (seniors .exit))) ⌝ }
 {
     let old = load128(rec, JUNIORS + 2 * i);
     rewrite_upper(rec, index, standing, i);
@@ -71,7 +71,7 @@ pub fn relink_uppers(
     requires { ⌜ length (now rec) ≡ recordLength ⌝ }
     requires { ⌜ length (now index) ≡ indexLength ⌝ }
     requires { ⌜ length (now seniors) ≡ 256 ⌝ }
-    ensures { λ r. ⌜ ((old : Rows) (st : State) (t : ℕ) → Target st (set128 standing) (now (index .entry)) → Partway old st (set128 roles) (set128 roles) t (now (rec .entry)) → Linked (now (rec .entry)) (now (seniors .entry)) → Partway old st 0 0 t (now (rec .exit)) × Linked (now (rec .exit)) (now (seniors .exit))) ⌝ }
+    ensures { λ r. ⌜ ((old : RoleRows) (st : State) (t : ℕ) → Target st (set128 standing) (now (index .entry)) → Partway old st (set128 roles) (set128 roles) t (now (rec .entry)) → Linked (now (rec .entry)) (now (seniors .entry)) → Partway old st 0 0 t (now (rec .exit)) × Linked (now (rec .exit)) (now (seniors .exit))) ⌝ }
 {
     let mut rest = roles;
     while !rest.is_empty() {

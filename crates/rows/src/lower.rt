@@ -4,7 +4,7 @@ ghost use Prim.Native.Nat.{ℕ, _<_};
 ghost use lib.ListN.{length};
 ghost use Rattle.sets.specs.Held.{set128};
 ghost use Rattle.sets.specs.Sets.{_∖_, single};
-ghost use Rattle.model.specs.Hierarchy.{Rows};
+ghost use Rattle.model.specs.Hierarchy.{RoleRows};
 ghost use Rattle.model.specs.Record.{recordLength};
 ghost use Rattle.model.specs.State.{State};
 ghost use Rattle.indexes.specs.Index.{indexLength};
@@ -25,7 +25,7 @@ fn rewrite_lower(rec: &mut [u64], index: &[u64], seniors: &[u64], standing: Set1
     requires { ⌜ length (now index) ≡ indexLength ⌝ }
     requires { ⌜ length (now seniors) ≡ 256 ⌝ }
     requires { ⌜ j < 128 ⌝ }
-    ensures { λ r. ⌜ ((old : Rows) (st : State) (p t : ℕ) → Target st (set128 standing) (now (index .entry)) → Linked (now (rec .entry)) (now (seniors .entry)) → Partway old st 0 p t (now (rec .entry)) → Partway old st 0 p (t ∖ single j) (now (rec .exit))) ⌝ }
+    ensures { λ r. ⌜ ((old : RoleRows) (st : State) (p t : ℕ) → Target st (set128 standing) (now (index .entry)) → Linked (now (rec .entry)) (now (seniors .entry)) → Partway old st 0 p t (now (rec .entry)) → Partway old st 0 p (t ∖ single j) (now (rec .exit))) ⌝ }
 {
     let above = load128(seniors, 2 * j);
     let members = members_of(&index[USERS..HOLDERS], above, standing, j);
@@ -43,7 +43,7 @@ pub fn rewrite_lowers(
     requires { ⌜ length (now rec) ≡ recordLength ⌝ }
     requires { ⌜ length (now index) ≡ indexLength ⌝ }
     requires { ⌜ length (now seniors) ≡ 256 ⌝ }
-    ensures { λ r. ⌜ ((old : Rows) (st : State) (p : ℕ) → Target st (set128 standing) (now (index .entry)) → Linked (now (rec .entry)) (now (seniors .entry)) → Partway old st 0 p (set128 roles) (now (rec .entry)) → Partway old st 0 p 0 (now (rec .exit)) × Linked (now (rec .exit)) (now (seniors .entry))) ⌝ }
+    ensures { λ r. ⌜ ((old : RoleRows) (st : State) (p : ℕ) → Target st (set128 standing) (now (index .entry)) → Linked (now (rec .entry)) (now (seniors .entry)) → Partway old st 0 p (set128 roles) (now (rec .entry)) → Partway old st 0 p 0 (now (rec .exit)) × Linked (now (rec .exit)) (now (seniors .entry))) ⌝ }
 {
     let mut rest = roles;
     while !rest.is_empty() {

@@ -4,7 +4,7 @@ ghost use Prim.Native.Nat.{ℕ, _<_};
 ghost use lib.ListN.{length};
 ghost use Rattle.sets.specs.Held.{set128};
 ghost use Rattle.sets.specs.Sets.{_∖_, single};
-ghost use Rattle.model.specs.Hierarchy.{Rows};
+ghost use Rattle.model.specs.Hierarchy.{RoleRows};
 ghost use Rattle.model.specs.Record.{recordLength};
 ghost use Rattle.model.specs.State.{State};
 ghost use Rattle.indexes.specs.Index.{indexLength};
@@ -26,7 +26,7 @@ pub fn rewrite_upper(rec: &mut [u64], index: &[u64], standing: Set128, i: usize)
     requires { ⌜ length (now rec) ≡ recordLength ⌝ }
     requires { ⌜ length (now index) ≡ indexLength ⌝ }
     requires { ⌜ i < 128 ⌝ }
-    ensures { λ r. ⌜ ((old : Rows) (st : State) (s p t : ℕ) → Target st (set128 standing) (now (index .entry)) → Partway old st s p t (now (rec .entry)) → Partway old st (s ∖ single i) (p ∖ single i) t (now (rec .exit))) ⌝ }
+    ensures { λ r. ⌜ ((old : RoleRows) (st : State) (s p t : ℕ) → Target st (set128 standing) (now (index .entry)) → Partway old st s p t (now (rec .entry)) → Partway old st (s ∖ single i) (p ∖ single i) t (now (rec .exit))) ⌝ }
 {
     let juniors = juniors_of(&index[LOWER..ROLES], standing, i);
     let permissions = permissions_of(&rec[SETS..PERMISSIONS], juniors, standing, i);
@@ -38,7 +38,7 @@ pub fn rewrite_upper(rec: &mut [u64], index: &[u64], standing: Set128, i: usize)
 pub fn rewrite_uppers(rec: &mut [u64], index: &[u64], standing: Set128, roles: Set128)
     requires { ⌜ length (now rec) ≡ recordLength ⌝ }
     requires { ⌜ length (now index) ≡ indexLength ⌝ }
-    ensures { λ r. ⌜ ((old : Rows) (st : State) (t : ℕ) → Target st (set128 standing) (now (index .entry)) → Partway old st (set128 roles) (set128 roles) t (now (rec .entry)) → Partway old st 0 0 t (now (rec .exit))) ⌝ }
+    ensures { λ r. ⌜ ((old : RoleRows) (st : State) (t : ℕ) → Target st (set128 standing) (now (index .entry)) → Partway old st (set128 roles) (set128 roles) t (now (rec .entry)) → Partway old st 0 0 t (now (rec .exit))) ⌝ }
 {
     let mut rest = roles;
     while !rest.is_empty() {

@@ -7,7 +7,7 @@ use native.Mathlib.Omega.{arith}
 use lib.Count.{ones}
 use lib.ListN.{length}
 use Rattle.sets.specs.Held.{set128}
-use Rattle.model.specs.Hierarchy.{Rows}
+use Rattle.model.specs.Hierarchy.{RoleRows}
 use Rattle.model.specs.Record.{recordLength}
 use Rattle.model.specs.State.{State}
 use Rattle.hierarchy.proofs.Sieving.{fewer, not-empty, is-empty}
@@ -19,7 +19,7 @@ use Rattle.rows.proofs.link.relink_uppers.Tie as tie
 abbrev Inv-loop : tie.InvT-loop
 Inv-loop rec₀ index seniors₀ standing rest₀ rec seniors rest =
     (length rec ≡ recordLength) × (length seniors ≡ 256)
-    × ((old : Rows) (st : State) (t : ℕ) → Target st (set128 standing) index → Partway old st (set128 rest₀) (set128 rest₀) t rec₀ → Linked rec₀ seniors₀ → Partway old st (set128 rest) (set128 rest) t rec × Linked rec seniors)
+    × ((old : RoleRows) (st : State) (t : ℕ) → Target st (set128 standing) index → Partway old st (set128 rest₀) (set128 rest₀) t rec₀ → Linked rec₀ seniors₀ → Partway old st (set128 rest) (set128 rest) t rec × Linked rec seniors)
 
 abbrev μ-loop : tie.MeasureT-loop
 μ-loop rec₀ index seniors₀ standing rest₀ rec seniors rest = ones (set128 rest)

@@ -7,7 +7,7 @@ use native.Mathlib.Omega.{arith}
 use lib.Count.{ones}
 use lib.ListN.{length}
 use Rattle.sets.specs.Held.{set128}
-use Rattle.model.specs.Hierarchy.{Rows}
+use Rattle.model.specs.Hierarchy.{RoleRows}
 use Rattle.model.specs.Record.{recordLength}
 use Rattle.model.specs.State.{State}
 use Rattle.hierarchy.proofs.Sieving.{fewer, not-empty, is-empty}
@@ -20,7 +20,7 @@ use Rattle.rows.proofs.lower.rewrite_lowers.Tie as tie
 abbrev Inv-loop : tie.InvT-loop
 Inv-loop rec₀ index seniors standing rest₀ rec rest =
     (length rec ≡ recordLength)
-    × ((old : Rows) (st : State) (p : ℕ) → Target st (set128 standing) index → Linked rec₀ seniors → Partway old st 0 p (set128 rest₀) rec₀ → Partway old st 0 p (set128 rest) rec × Linked rec seniors)
+    × ((old : RoleRows) (st : State) (p : ℕ) → Target st (set128 standing) index → Linked rec₀ seniors → Partway old st 0 p (set128 rest₀) rec₀ → Partway old st 0 p (set128 rest) rec × Linked rec seniors)
 
 abbrev μ-loop : tie.MeasureT-loop
 μ-loop rec₀ index seniors standing rest₀ rec rest = ones (set128 rest)
