@@ -2,7 +2,6 @@
 -- Assumes nothing.
 use Prim.Native.Nat.{ℕ, _≤_}
 use Rattle.model.specs.Quality as model
-use Rattle.model.specs.Machine as machine
 use Rattle.quality.specs.declared.counts.Counts.{Counts}
 use Rattle.quality.specs.declared.weights.Weights.{Weights}
 use Rattle.quality.specs.declared.weights.Tolerance.{Tolerance}
@@ -14,14 +13,14 @@ countsIn q = record { roles = q .roles; members = q .members; permissions = q .p
 unfoldable pub weightsIn : Weights → model.Weights
 weightsIn w = record { perRole = w .role; perMember = w .member; perPermission = w .permission; perLink = w .link }
 
-unfoldable pub toleranceIn : Tolerance → machine.Tolerance
+unfoldable pub toleranceIn : Tolerance → model.Tolerance
 toleranceIn t = record { numerator = t .numerator; denominator = t .denominator }
 
 -- the weights w1 to w4 and the tolerance a/b of a call
 unfoldable pub weightsOf : ℕ → ℕ → ℕ → ℕ → model.Weights
 weightsOf w1 w2 w3 w4 = record { perRole = w1; perMember = w2; perPermission = w3; perLink = w4 }
 
-unfoldable pub toleranceOf : ℕ → ℕ → machine.Tolerance
+unfoldable pub toleranceOf : ℕ → ℕ → model.Tolerance
 toleranceOf a b = record { numerator = a; denominator = b }
 
 -- how large the counts can be, whatever words the record holds: at most 128 roles, with 128 members, 256 permissions and 128 links each
