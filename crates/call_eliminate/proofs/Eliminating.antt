@@ -19,10 +19,11 @@ use Rattle.model.proofs.Bounds.{tolerance-iff}
 use Rattle.edit_trials.specs.declared.progress.Progress.{Progress}
 use Rattle.edit_trials.specs.Trying.{Ready, Kin}
 use Rattle.edit_eliminate.specs.declared.turn.Tolerance as tolerance
-use Rattle.edit_eliminate.specs.Passing.{toleranceIn, Ended}
+use Rattle.quality.specs.Numbers.{toleranceIn, toleranceOf}
+use Rattle.edit_eliminate.specs.Passing.{Ended}
 use Rattle.calls.proofs.Edits.{refusedWith, edit-refused, run-given}
 use Rattle.call_eliminate.specs.declared.EliminateAnswer.{EliminateAnswer}
-use Rattle.call_eliminate.specs.Answers.{eliminateGiven, toleranceOf}
+use Rattle.call_eliminate.specs.Answers.{eliminateGiven}
 
 -- the tolerance, test by test
 tolerance-read : (a b : ℕ) → So (toleranceAllowed (toleranceOf a b)) ↔ ((1 ≤ b) × (b ≤ 1000) × (b ≤ a) × (a ≤ 2 * b))

@@ -1,6 +1,6 @@
 ghost use mathlib.Core.Path.{_≡_};
 ghost use Rattle.model.specs.Calls.{qualityOf};
-ghost use Rattle.quality.specs.Reading.{weightsOf};
+ghost use Rattle.quality.specs.Numbers.{weightsOf};
 ghost use Rattle.call_quality.specs.Answers.{qualityTold};
 use quality::count_rows;
 use quality::weigh;

@@ -39,7 +39,7 @@ module _ (ws : List ℕ) (h : So (sound ws)) (k : ℕ) where
     unfolding accepted
     restore-0 gone low roles users after ix done =
         let absent : has (stateOf ws .standing) k ≡ false = sym (stands-told ws h t R k e et) ∙ gone in
-        edit-accepted ws (restore k) h (accepted (stateOf ws) (restore k)) after (restore-iff (stateOf ws) k (number ws h k l) absent) refl
+        edit-accepted ws (restore k) h (accepted (stateOf ws) (restore k)) after (restore-iff (stateOf ws) k .1 (number ws h k l, absent)) refl
         (done (stateOf ws) roles (sound-limits ws h) (sound-built ws h) ix (number ws h k l) absent)
 
 -- the answer's field

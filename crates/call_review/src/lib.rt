@@ -1,7 +1,7 @@
 ghost use mathlib.Core.Path.{_≡_};
 ghost use Rattle.model.specs.Calls.{edit};
 ghost use Rattle.model.specs.Machine.Call.{review};
-ghost use Rattle.quality.specs.Reading.{weightsOf};
+ghost use Rattle.quality.specs.Numbers.{weightsOf};
 ghost use Rattle.call_review.specs.Answers.{reviewGiven};
 use edit_review::review_all;
 use edit_trials::Weights;

@@ -53,7 +53,7 @@ module _ (ws : List ℕ) (h : So (sound ws)) (k : ℕ) where
             → refusedWith 0 after ≡ edit ws (strike k)
         unfolding accepted
         strike-0 ok after done =
-            edit-accepted ws (strike k) h (accepted (stateOf ws) (strike k)) after (strike-iff (stateOf ws) k (number ws h k l) stands (sym able ∙ ok)) refl
+            edit-accepted ws (strike k) h (accepted (stateOf ws) (strike k)) after (strike-iff (stateOf ws) k .1 (number ws h k l, stands, sym able ∙ ok)) refl
             (done (stateOf ws) roles (sound-limits ws h) (sound-built ws h) ix stands)
 
 -- the answer's field

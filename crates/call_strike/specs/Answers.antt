@@ -1,4 +1,4 @@
--- The reply with the record as the call leaves it, in the form in which the model gives it.
+-- The answer with the record as the call leaves it, in the form in which the model gives it.
 -- Assumes nothing.
 use mathlib.Core.List.{List}
 use Prim.Native.Nat.{ℕ}

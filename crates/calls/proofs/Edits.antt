@@ -23,8 +23,8 @@ use Rattle.model.proofs.Steps.{step-accepted, step-refused}
 use Rattle.model.proofs.Claim.{edit-words, edit-replied}
 use Rattle.indexes.specs.Tables.{Indexed}
 use Rattle.edit_rows.proofs.Changing.{count, few, standing-read}
-use Rattle.quality.specs.declared.quality.Counts.{Counts}
-use Rattle.quality.specs.Reading.{countsOf}
+use Rattle.quality.specs.declared.counts.Counts.{Counts}
+use Rattle.quality.specs.Numbers.{countsIn}
 use Rattle.model.proofs.Sound.{sound-counts}
 use Rattle.edit_trials.specs.declared.progress.Progress.{Progress}
 use Rattle.edit_trials.specs.Trying.{Ready, Exact, Kin, runAt}
@@ -107,5 +107,5 @@ run-given ws low users after g worklist call h e t =
 pub sound-ready : (ws low roles users : List ℕ) → So (sound ws) → Indexed (stateOf ws) low roles users → Ready ws low users
 sound-ready ws low roles users h ix = record { limits = sound-limits ws h; afresh = sound-built ws h; roles = roles; indexed = ix }
 
-pub sound-exact : (ws : List ℕ) (q : Counts) → So (sound ws) → countsOf q ≡ counted (getD ws 2 0) (roleRowsOf ws) (setAt 2 ws 4) → Exact ws q
+pub sound-exact : (ws : List ℕ) (q : Counts) → So (sound ws) → countsIn q ≡ counted (getD ws 2 0) (roleRowsOf ws) (setAt 2 ws 4) → Exact ws q
 sound-exact ws q h e = e ∙ sound-counts ws h

@@ -26,4 +26,4 @@ pub bad-record : (a k rest : ℕ) → k ≢ 0 → a ≡ k → (if isnt (eqb a 0)
 bad-record a k rest d e = if-stops (eqb a 0) a rest (not-So (eqb a 0) (λ h. d (sym e ∙ eqb-iff a 0 .0 h))) ∙ e
 
 pub good-record : (ws : List ℕ) (rest : ℕ) → So (sound ws) → (if isnt (eqb (unfit ws) 0) then unfit ws else rest) ≡ rest
-good-record ws rest h = if-passes (eqb (unfit ws) 0) (unfit ws) rest (eqb-iff (unfit ws) 0 .1 (unfit-iff ws h))
+good-record ws rest h = if-passes (eqb (unfit ws) 0) (unfit ws) rest (eqb-iff (unfit ws) 0 .1 (unfit-iff ws .1 h))

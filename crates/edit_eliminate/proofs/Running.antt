@@ -20,10 +20,12 @@ use Rattle.model.specs.Coverage.{strikables}
 use Rattle.model.specs.Indexes.{rolesOfUser, rolesOfPermission}
 use Rattle.model.specs.Quality.{Weights, quality}
 use Rattle.model.specs.Machine as model
+use Rattle.model.specs.Quality as modelQuality
 use Rattle.model.specs.Machine.{Run, takeUp, takeUpAll, foremost, pass, passes, begin, eliminated}
 use Rattle.model.specs.Record.{setsStart, built, stateOf, Limits}
 use Rattle.model.specs.State.{State, rolesOf}
 use Rattle.model.proofs.Reading.{strikables-iff, strikable-stands}
+use Rattle.model.proofs.Elimination.{examined-one}
 use Rattle.model.proofs.Passes.{pass-examined}
 use Rattle.indexes.specs.Tables.{Indexed}
 use Rattle.tables.specs.Tables.{Holds}
@@ -41,7 +43,7 @@ use Rattle.edit_eliminate.proofs.Taking.{up-changed, stand-few}
 
 -- ---- how much a pass counts
 
-all-changed : (ρ : Roles) (w : Weights) (t : model.Tolerance) (key : ℕ → ℕ) (left todo : ℕ) (r : Run) → takeUpAll ρ w t key left todo r .changed ≤ r .changed + left
+all-changed : (ρ : Roles) (w : Weights) (t : modelQuality.Tolerance) (key : ℕ → ℕ) (left todo : ℕ) (r : Run) → takeUpAll ρ (takeUp ρ w t) key left todo r .changed ≤ r .changed + left
 unfolding takeUpAll
 all-changed ρ w t key zero todo r = omega arith
 all-changed ρ w t key (suc left) todo r =
@@ -50,34 +52,34 @@ all-changed ρ w t key (suc left) todo r =
     let b = up-changed ρ w t k r in
     omega arith
 
-pass-changed : (ρ : Roles) (w : Weights) (t : model.Tolerance) (r : Run) → pass ρ w t r .changed ≤ r .changed + ones (r .worklist)
+pass-changed : (ρ : Roles) (w : Weights) (t : modelQuality.Tolerance) (r : Run) → pass ρ (takeUp ρ w t) r .changed ≤ r .changed + ones (r .worklist)
 unfolding pass
 pass-changed ρ w t r = all-changed ρ w t (model.redundancy ρ (strikables ρ (r .standing))) (ones (r .worklist)) (r .worklist) r
 
 -- ---- when passes end
 
-module _ (ρ : Roles) (w : Weights) (t : model.Tolerance) (fuel : ℕ) (r : Run) where
-  passes-empty : r .worklist ≡ 0 → passes ρ w t (suc fuel) r ≡ r
+module _ (ρ : Roles) (w : Weights) (t : modelQuality.Tolerance) (fuel : ℕ) (r : Run) where
+  passes-empty : r .worklist ≡ 0 → passes ρ (takeUp ρ w t) (suc fuel) r ≡ r
   unfolding passes
   passes-empty e = if-true (eqb (r .worklist) 0) r _ (eqb-iff (r .worklist) 0 .1 e)
 
-  module _ (some : r .worklist ≢ 0) (next : Run) (en : next ≡ pass ρ w t r) where
+  module _ (some : r .worklist ≢ 0) (next : Run) (en : next ≡ pass ρ (takeUp ρ w t) r) where
     goes-on : eqb (r .worklist) 0 ≡ false
     goes-on = not-So (eqb (r .worklist) 0) (λ h. some (eqb-iff (r .worklist) 0 .0 h))
 
-    passes-last : next .changed ≡ r .changed → passes ρ w t (suc fuel) r ≡ next
+    passes-last : next .changed ≡ r .changed → passes ρ (takeUp ρ w t) (suc fuel) r ≡ next
     unfolding passes
     passes-last e =
         rw (sym en)
-        (if-false (eqb (r .worklist) 0) r (if eqb (next .changed) (r .changed) then next else passes ρ w t fuel next) goes-on
-        ∙ if-true (eqb (next .changed) (r .changed)) next (passes ρ w t fuel next) (eqb-iff (next .changed) (r .changed) .1 e))
+        (if-false (eqb (r .worklist) 0) r (if eqb (next .changed) (r .changed) then next else passes ρ (takeUp ρ w t) fuel next) goes-on
+        ∙ if-true (eqb (next .changed) (r .changed)) next (passes ρ (takeUp ρ w t) fuel next) (eqb-iff (next .changed) (r .changed) .1 e))
 
-    passes-more : (next .changed ≡ r .changed → ⊥) → passes ρ w t (suc fuel) r ≡ passes ρ w t fuel next
+    passes-more : (next .changed ≡ r .changed → ⊥) → passes ρ (takeUp ρ w t) (suc fuel) r ≡ passes ρ (takeUp ρ w t) fuel next
     unfolding passes
     passes-more d =
         rw (sym en)
-        (if-false (eqb (r .worklist) 0) r (if eqb (next .changed) (r .changed) then next else passes ρ w t fuel next) goes-on
-        ∙ if-false (eqb (next .changed) (r .changed)) next (passes ρ w t fuel next) (not-So (eqb (next .changed) (r .changed)) (λ h. d (eqb-iff (next .changed) (r .changed) .0 h))))
+        (if-false (eqb (r .worklist) 0) r (if eqb (next .changed) (r .changed) then next else passes ρ (takeUp ρ w t) fuel next) goes-on
+        ∙ if-false (eqb (next .changed) (r .changed)) next (passes ρ (takeUp ρ w t) fuel next) (not-So (eqb (next .changed) (r .changed)) (λ h. d (eqb-iff (next .changed) (r .changed) .0 h))))
 
 -- the strikable roles stand
 strikables-stand : (ρ : Roles) (R : ℕ) → Stand (strikables ρ R) R
@@ -92,7 +94,7 @@ strikables-found ws low users roles holders s ready found told =
 
 -- ---- the passes: mid, g, wl and counted are what those before have left, and `left` more may follow
 
-module _ (ws low users : List ℕ) (w : Weights) (t : model.Tolerance) where
+module _ (ws low users : List ℕ) (w : Weights) (t : modelQuality.Tolerance) where
   abbrev ρ : Roles
   ρ = rolesOf (stateOf ws)
 
@@ -102,7 +104,7 @@ module _ (ws low users : List ℕ) (w : Weights) (t : model.Tolerance) where
   pub record Running (mid : List ℕ) (g : Progress) (wl counted left : ℕ) : Type 0 where
     pub going : Going mid low users g
     pub kin : Kin (stateOf ws) mid
-    pub rest : end ≡ passes ρ w t left (runAt mid g wl)
+    pub rest : end ≡ passes ρ (takeUp ρ w t) left (runAt mid g wl)
     pub strikable-now : counted ≡ strikables (rolesOf (stateOf mid)) (stateOf mid .standing)
     pub listed : Stand wl (stateOf mid .standing)
     pub changed : g .changed + 128 * left ≤ 16512
@@ -122,7 +124,7 @@ module _ (ws low users : List ℕ) (w : Weights) (t : model.Tolerance) where
       record {
         going = going;
         kin = kin-same ws;
-        rest = λ i. passes ρ w t (sym n i) (record { standing = stateOf ws .standing; worklist = sym (ew ∙ ec) i; reference = sym eq i; changed = sym e0 i; examined = sym e1 i });
+        rest = λ i. passes ρ (takeUp ρ w t) (sym n i) (record { standing = stateOf ws .standing; worklist = sym (ew ∙ ec) i; reference = sym eq i; changed = sym e0 i; examined = sym e1 i });
         strikable-now = ec;
         listed = rw (ew ∙ ec) (strikables-stand ρ (stateOf ws .standing));
         changed = omega arith;
@@ -133,22 +135,22 @@ module _ (ws low users : List ℕ) (w : Weights) (t : model.Tolerance) where
   module _ (mid : List ℕ) (g : Progress) (wl counted left : ℕ) (p : Running mid g wl counted left) where
     pub running-out : left ≡ 0 → Ready mid low users × Kin (stateOf ws) mid × Ended mid g end
     unfolding passes
-    running-out e = (p .going .ready, p .kin, ended mid g wl (p .rest ∙ ap (λ (n : ℕ). passes ρ w t n (runAt mid g wl)) e))
+    running-out e = (p .going .ready, p .kin, ended mid g wl (p .rest ∙ ap (λ (n : ℕ). passes ρ (takeUp ρ w t) n (runAt mid g wl)) e))
 
     module _ (some : 0 < left) where
       one-less : left ≡ suc (left - 1)
       one-less = omega arith
 
-      at-least-one : end ≡ passes ρ w t (suc (left - 1)) (runAt mid g wl)
-      at-least-one = p .rest ∙ ap (λ (n : ℕ). passes ρ w t n (runAt mid g wl)) one-less
+      at-least-one : end ≡ passes ρ (takeUp ρ w t) (suc (left - 1)) (runAt mid g wl)
+      at-least-one = p .rest ∙ ap (λ (n : ℕ). passes ρ (takeUp ρ w t) n (runAt mid g wl)) one-less
 
       pub running-empty : wl ≡ 0 → Ready mid low users × Kin (stateOf ws) mid × Ended mid g end
       unfolding runAt
       running-empty e = (p .going .ready, p .kin, ended mid g wl (at-least-one ∙ passes-empty ρ w t (left - 1) (runAt mid g wl) e))
 
       module _ (not-done : wl ≢ 0) (after : List ℕ) (r : Progress) (wl' : ℕ)
-          (turn : Going after low users r × Kin (stateOf mid) after × (runAt after r wl' ≡ pass (rolesOf (stateOf mid)) w t (runAt mid g wl)) × Stand wl' (stateOf after .standing) × (r .quality ≤ 100000000)) where
-        next-run : runAt after r wl' ≡ pass ρ w t (runAt mid g wl)
+          (turn : Going after low users r × Kin (stateOf mid) after × (runAt after r wl' ≡ pass (rolesOf (stateOf mid)) (takeUp (rolesOf (stateOf mid)) w t) (runAt mid g wl)) × Stand wl' (stateOf after .standing) × (r .quality ≤ 100000000)) where
+        next-run : runAt after r wl' ≡ pass ρ (takeUp ρ w t) (runAt mid g wl)
         next-run = rw (kin-roles (stateOf ws) mid (p .kin)) at (turn .2)
 
         pub running-last : r .changed ≡ g .changed → Ready after low users × Kin (stateOf ws) after × Ended after r end
@@ -165,7 +167,7 @@ module _ (ws low users : List ℕ) (w : Weights) (t : model.Tolerance) where
         running-more d counted' ec =
             let n = stand-few mid low users wl (p .going .ready) (p .listed) in
             let changed : r .changed ≤ g .changed + ones wl = rw (ap (λ (x : Run). x .changed) next-run) (pass-changed ρ w t (runAt mid g wl)) in
-            let examined : r .examined ≡ g .examined + ones wl = ap (λ (x : Run). x .examined) next-run ∙ pass-examined ρ w t (runAt mid g wl) in
+            let examined : r .examined ≡ g .examined + ones wl = ap (λ (x : Run). x .examined) next-run ∙ pass-examined ρ (takeUp ρ w t) (examined-one ρ w t) (runAt mid g wl) in
             let pc = p .changed in
             let pe = p .examined in
             record {
@@ -180,7 +182,7 @@ module _ (ws low users : List ℕ) (w : Weights) (t : model.Tolerance) where
             }
 
 -- where no role is strikable, the elimination ends as it begins
-pub running-none : (ws low users : List ℕ) (w : Weights) (t : model.Tolerance) (g : Progress) (able : ℕ) → Going ws low users g → able ≡ strikables (rolesOf (stateOf ws)) (stateOf ws .standing) → able ≡ 0
+pub running-none : (ws low users : List ℕ) (w : Weights) (t : modelQuality.Tolerance) (g : Progress) (able : ℕ) → Going ws low users g → able ≡ strikables (rolesOf (stateOf ws)) (stateOf ws .standing) → able ≡ 0
     → g .changed ≡ 0 → g .examined ≡ 0 → g .quality ≡ quality (rolesOf (stateOf ws)) w (stateOf ws .standing) → g .quality ≤ 100000000
     → Ready ws low users × Kin (stateOf ws) ws × Ended ws g (eliminated (rolesOf (stateOf ws)) w t (stateOf ws .standing))
 running-none ws low users w t g able going ea none e0 e1 eq few =

@@ -17,6 +17,7 @@ use Rattle.sets.proofs.Counts.{ones-without, ones-zero}
 use Rattle.model.specs.Hierarchy.{Roles, candidateCount}
 use Rattle.model.specs.Quality.{Weights, quality}
 use Rattle.model.specs.Machine as model
+use Rattle.model.specs.Quality as modelQuality
 use Rattle.model.specs.Coverage.{strikables}
 use Rattle.model.specs.Machine.{Run, takeUp, takeUpAll, foremost, redundancy, afterDrop, afterStrike, afterStay}
 use Rattle.model.specs.Record.{stateOf}
@@ -34,7 +35,7 @@ use Rattle.edit_eliminate.specs.Passing.{Searched, Stand}
 
 -- ---- what a turn leaves
 
-module _ (ρ : Roles) (w : Weights) (t : model.Tolerance) (k : ℕ) (r : Run) where
+module _ (ρ : Roles) (w : Weights) (t : modelQuality.Tolerance) (k : ℕ) (r : Run) where
   -- the others stand as they did
   pub up-standing : (i : ℕ) → So (has (r .standing) i) → i ≢ k → So (has (takeUp ρ w t k r .standing) i)
   unfolding afterDrop afterStrike afterStay
@@ -73,7 +74,7 @@ stand-few ws low users s ready inv =
 
 -- ---- the walk: `todo` is not yet taken up, mid, g and list are what the roles before have left
 
-module _ (ws low users ranks : List ℕ) (w : Weights) (t : model.Tolerance) (at : Progress) (wl : ℕ) where
+module _ (ws low users ranks : List ℕ) (w : Weights) (t : modelQuality.Tolerance) (at : Progress) (wl : ℕ) where
   abbrev ρ : Roles
   ρ = rolesOf (stateOf ws)
 
@@ -81,7 +82,7 @@ module _ (ws low users ranks : List ℕ) (w : Weights) (t : model.Tolerance) (at
     pub going : Going mid low users g
     pub kin : Kin (stateOf ws) mid
     pub below : todo < 2 ^ candidateCount ρ
-    pub run : (key : ℕ → ℕ) → Keyed ranks wl key → takeUpAll ρ w t key (ones wl) wl (runAt ws at wl) ≡ takeUpAll ρ w t key (ones todo) todo (runAt mid g list)
+    pub run : (key : ℕ → ℕ) → Keyed ranks wl key → takeUpAll ρ (takeUp ρ w t) key (ones wl) wl (runAt ws at wl) ≡ takeUpAll ρ (takeUp ρ w t) key (ones todo) todo (runAt mid g list)
     pub small : top ≤ 128
     pub tops : (key : ℕ → ℕ) → Keyed ranks wl key → (i : ℕ) → So (has todo i) → key i ≤ top
     pub within : (i : ℕ) → So (has todo i) → So (has wl i)
@@ -125,14 +126,14 @@ module _ (ws low users ranks : List ℕ) (w : Weights) (t : model.Tolerance) (at
       fewer : suc (ones todo') ≡ ones todo
       fewer = rw et (ones-without todo k here)
 
-      all-next : (key : ℕ → ℕ) → Keyed ranks wl key → takeUpAll ρ w t key (ones todo) todo (runAt mid g list) ≡ takeUpAll ρ w t key (ones todo') todo' (runAt after r list')
+      all-next : (key : ℕ → ℕ) → Keyed ranks wl key → takeUpAll ρ (takeUp ρ w t) key (ones todo) todo (runAt mid g list) ≡ takeUpAll ρ (takeUp ρ w t) key (ones todo') todo' (runAt after r list')
       unfolding takeUpAll
       all-next key h =
           let c = candidateCount ρ in
           let first : k ≡ foremost c key todo = next-role key h .0 in
-          let more : takeUpAll ρ w t key (ones todo) todo (runAt mid g list) ≡ takeUpAll ρ w t key (suc (ones todo')) todo (runAt mid g list) = ap (λ (n : ℕ). takeUpAll ρ w t key n todo (runAt mid g list)) (sym fewer) in
-          more ∙ ap (λ (j : ℕ). takeUpAll ρ w t key (ones todo') (todo ∖ single j) (takeUp ρ w t j (runAt mid g list))) (sym first)
-          ∙ (λ i. takeUpAll ρ w t key (ones todo') (sym et i) (sym next i))
+          let more : takeUpAll ρ (takeUp ρ w t) key (ones todo) todo (runAt mid g list) ≡ takeUpAll ρ (takeUp ρ w t) key (suc (ones todo')) todo (runAt mid g list) = ap (λ (n : ℕ). takeUpAll ρ (takeUp ρ w t) key n todo (runAt mid g list)) (sym fewer) in
+          more ∙ ap (λ (j : ℕ). takeUpAll ρ (takeUp ρ w t) key (ones todo') (todo ∖ single j) (takeUp ρ w t j (runAt mid g list))) (sym first)
+          ∙ (λ i. takeUpAll ρ (takeUp ρ w t) key (ones todo') (sym et i) (sym next i))
 
       pub taking-more : Taking after r list' todo' top'
       unfolding runAt
@@ -161,11 +162,11 @@ module _ (ws low users ranks : List ℕ) (w : Weights) (t : model.Tolerance) (at
             quality = turn .3;
           }
 
-    pub taking-all : todo ≡ 0 → (key : ℕ → ℕ) → Keyed ranks wl key → runAt mid g list ≡ takeUpAll ρ w t key (ones wl) wl (runAt ws at wl)
+    pub taking-all : todo ≡ 0 → (key : ℕ → ℕ) → Keyed ranks wl key → runAt mid g list ≡ takeUpAll ρ (takeUp ρ w t) key (ones wl) wl (runAt ws at wl)
     unfolding takeUpAll
     taking-all e key h =
         let none : ones todo ≡ 0 = ap ones e ∙ ones-zero in
-        sym (p .run key h ∙ ap (λ (n : ℕ). takeUpAll ρ w t key n todo (runAt mid g list)) none)
+        sym (p .run key h ∙ ap (λ (n : ℕ). takeUpAll ρ (takeUp ρ w t) key n todo (runAt mid g list)) none)
 
 -- the indexes of a state are those of every state with the same crew list
 searched-now : (st : State) (S : ℕ) (roles holders : List ℕ) → Searched st roles holders → Searched (standingNow st S) roles holders
@@ -195,8 +196,8 @@ module _ (ws low users down up : List ℕ) (own first c : ℕ) (ready : Ready ws
       → Keyed ranks wl (redundancy (rolesOf (stateOf ws)) counted)
   pass-keyed ranks counted wl inv filled = filled (rolesOf (stateOf ws)) count a (rw count at (stand-below ws low users wl ready inv))
 
-pub pass-is : (ws after : List ℕ) (at g : Progress) (w : Weights) (t : model.Tolerance) (counted wl wl' : ℕ) → counted ≡ strikables (rolesOf (stateOf ws)) (stateOf ws .standing)
-    → runAt after g wl' ≡ takeUpAll (rolesOf (stateOf ws)) w t (redundancy (rolesOf (stateOf ws)) counted) (ones wl) wl (runAt ws at wl)
-    → runAt after g wl' ≡ model.pass (rolesOf (stateOf ws)) w t (runAt ws at wl)
+pub pass-is : (ws after : List ℕ) (at g : Progress) (w : Weights) (t : modelQuality.Tolerance) (counted wl wl' : ℕ) → counted ≡ strikables (rolesOf (stateOf ws)) (stateOf ws .standing)
+    → runAt after g wl' ≡ takeUpAll (rolesOf (stateOf ws)) (takeUp (rolesOf (stateOf ws)) w t) (redundancy (rolesOf (stateOf ws)) counted) (ones wl) wl (runAt ws at wl)
+    → runAt after g wl' ≡ model.pass (rolesOf (stateOf ws)) (takeUp (rolesOf (stateOf ws)) w t) (runAt ws at wl)
 unfolding model.pass runAt
-pass-is ws after at g w t counted wl wl' e h = h ∙ ap (λ (s : ℕ). takeUpAll (rolesOf (stateOf ws)) w t (redundancy (rolesOf (stateOf ws)) s) (ones wl) wl (runAt ws at wl)) e
+pass-is ws after at g w t counted wl wl' e h = h ∙ ap (λ (s : ℕ). takeUpAll (rolesOf (stateOf ws)) (takeUp (rolesOf (stateOf ws)) w t) (redundancy (rolesOf (stateOf ws)) s) (ones wl) wl (runAt ws at wl)) e

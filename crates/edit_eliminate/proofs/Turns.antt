@@ -17,6 +17,7 @@ use Rattle.model.specs.Coverage.{strikable}
 use Rattle.model.specs.Indexes.{rolesOfPermission}
 use Rattle.model.specs.Quality.{Weights, quality}
 use Rattle.model.specs.Machine as model
+use Rattle.model.specs.Quality as modelQuality
 use Rattle.model.specs.Machine.{takeUp, afterDrop, afterStrike, afterStay}
 use Rattle.model.specs.Record.{built, stateOf, Limits}
 use Rattle.model.specs.State.{State, rolesOf, standingNow}
@@ -27,8 +28,9 @@ use Rattle.indexes.specs.Tables.{Indexed}
 use Rattle.edit_test.specs.Sparing.{HoldsFor}
 use Rattle.edit_trials.specs.declared.progress.Progress.{Progress}
 use Rattle.edit_trials.specs.Trying.{runAt, Ready}
-use Rattle.edit_eliminate.specs.declared.turn.Tolerance.{Tolerance}
-use Rattle.edit_eliminate.specs.Passing.{toleranceIn, Searched}
+use Rattle.quality.specs.declared.weights.Tolerance.{Tolerance}
+use Rattle.quality.specs.Numbers.{toleranceIn}
+use Rattle.edit_eliminate.specs.Passing.{Searched}
 
 -- ---- what the removability test is asked
 
@@ -47,7 +49,7 @@ module _ (ws low users roles holders : List ℕ) (ready : Ready ws low users) (f
 
 -- ---- products that can be formed
 
-pub tolerance-small : (t : Tolerance) → So (model.toleranceAllowed (toleranceIn t)) → (t .denominator ≤ 1000) × (t .numerator ≤ 2000)
+pub tolerance-small : (t : Tolerance) → So (modelQuality.toleranceAllowed (toleranceIn t)) → (t .denominator ≤ 1000) × (t .numerator ≤ 2000)
 unfolding toleranceIn
 tolerance-small t h =
     let k = tolerance-iff (toleranceIn t) .0 h in

@@ -7,14 +7,15 @@ use Prim.Native.Nat.{ℕ}
 use Rattle.sets.specs.Sets.{has}
 use Rattle.model.specs.Indexes.{rolesOfUser, rolesOfPermission}
 use Rattle.model.specs.Machine as model
+use Rattle.model.specs.Quality as modelQuality
 use Rattle.model.specs.State.{State, rolesOf}
 use Rattle.tables.specs.Tables.{Holds}
 use Rattle.edit_trials.specs.declared.progress.Progress.{Progress}
 use Rattle.edit_trials.specs.Trying.{runAt}
-use Rattle.edit_eliminate.specs.declared.turn.Tolerance.{Tolerance}
+use Rattle.quality.specs.declared.weights.Tolerance.{Tolerance}
 
 -- a/b as the struct holds it
-unfoldable pub toleranceIn : Tolerance → model.Tolerance
+unfoldable pub toleranceIn : Tolerance → modelQuality.Tolerance
 toleranceIn t = record { numerator = t .numerator; denominator = t .denominator }
 
 -- every item of s stands

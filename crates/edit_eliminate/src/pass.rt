@@ -11,8 +11,9 @@ ghost use Rattle.model.specs.Quality.{weightsAllowed, toleranceAllowed};
 ghost use Rattle.model.specs.Record.{recordLength, stateOf};
 ghost use Rattle.model.specs.State.{rolesOf};
 ghost use Rattle.edit_order.specs.Ranking.{Keyed, Ranked};
-ghost use Rattle.edit_trials.specs.Trying.{weightsIn, runAt, Kin, Going};
-ghost use Rattle.edit_eliminate.specs.Passing.{toleranceIn, Searched, Stand};
+ghost use Rattle.quality.specs.Numbers.{weightsIn, toleranceIn};
+ghost use Rattle.edit_trials.specs.Trying.{runAt, Kin, Going};
+ghost use Rattle.edit_eliminate.specs.Passing.{Searched, Stand};
 use crate::turn::Tolerance;
 use crate::turn::Turn;
 use crate::turn::take_up;
@@ -37,7 +38,7 @@ fn take_up_all(
     at: Progress,
 ) -> Turn
     requires { ⌜ (length (now rec) ≡ recordLength) × (length (now low) ≡ 256) × (length (now roles) ≡ 256) × (length (now users) ≡ 256) × (length (now holders) ≡ 512) × (length (now ranks) ≡ 258) × Going (now rec) (now low) (now users) at × Searched (stateOf (now rec)) (now roles) (now holders) × Stand (set128 worklist) (stateOf (now rec) .standing) × So (weightsAllowed (weightsIn w)) × So (toleranceAllowed (toleranceIn t)) × (at .changed ≤ 50000) × (at .examined ≤ 50000) × (at .quality ≤ 100000000) ⌝ }
-    ensures { λ r. ⌜ Going (now (rec .exit)) (now (low .entry)) (now (users .entry)) (r .progress) × Kin (stateOf (now (rec .entry))) (now (rec .exit)) × ((key : ℕ → ℕ) → Keyed (now (ranks .entry)) (set128 worklist) key → runAt (now (rec .exit)) (r .progress) (set128 (r .worklist)) ≡ takeUpAll (rolesOf (stateOf (now (rec .entry)))) (weightsIn w) (toleranceIn t) key (ones (set128 worklist)) (set128 worklist) (runAt (now (rec .entry)) at (set128 worklist))) × Stand (set128 (r .worklist)) (stateOf (now (rec .exit)) .standing) × (r .progress .quality ≤ 100000000) ⌝ }
+    ensures { λ r. ⌜ Going (now (rec .exit)) (now (low .entry)) (now (users .entry)) (r .progress) × Kin (stateOf (now (rec .entry))) (now (rec .exit)) × ((key : ℕ → ℕ) → Keyed (now (ranks .entry)) (set128 worklist) key → runAt (now (rec .exit)) (r .progress) (set128 (r .worklist)) ≡ takeUpAll (rolesOf (stateOf (now (rec .entry)))) (takeUp (rolesOf (stateOf (now (rec .entry)))) (weightsIn w) (toleranceIn t)) key (ones (set128 worklist)) (set128 worklist) (runAt (now (rec .entry)) at (set128 worklist))) × Stand (set128 (r .worklist)) (stateOf (now (rec .exit)) .standing) × (r .progress .quality ≤ 100000000) ⌝ }
 {
     let mut progress = at;
     let mut list = worklist;
@@ -75,7 +76,7 @@ pub fn pass(
     at: Progress,
 ) -> Turn
     requires { ⌜ (length (now rec) ≡ recordLength) × (length (now low) ≡ 256) × (length (now roles) ≡ 256) × (length (now users) ≡ 256) × (length (now holders) ≡ 512) × Going (now rec) (now low) (now users) at × Searched (stateOf (now rec)) (now roles) (now holders) × (set128 counted ≡ strikables (rolesOf (stateOf (now rec))) (stateOf (now rec) .standing)) × Stand (set128 worklist) (stateOf (now rec) .standing) × So (weightsAllowed (weightsIn w)) × So (toleranceAllowed (toleranceIn t)) × (at .changed ≤ 50000) × (at .examined ≤ 50000) × (at .quality ≤ 100000000) × (length (now down) ≡ 256) × (length (now up) ≡ 256) × Ranked (rolesOf (stateOf (now rec))) (now down) (now up) (set128 (ends .own)) (set128 (ends .first)) ⌝ }
-    ensures { λ r. ⌜ Going (now (rec .exit)) (now (low .entry)) (now (users .entry)) (r .progress) × Kin (stateOf (now (rec .entry))) (now (rec .exit)) × (runAt (now (rec .exit)) (r .progress) (set128 (r .worklist)) ≡ pass (rolesOf (stateOf (now (rec .entry)))) (weightsIn w) (toleranceIn t) (runAt (now (rec .entry)) at (set128 worklist))) × Stand (set128 (r .worklist)) (stateOf (now (rec .exit)) .standing) × (r .progress .quality ≤ 100000000) ⌝ }
+    ensures { λ r. ⌜ Going (now (rec .exit)) (now (low .entry)) (now (users .entry)) (r .progress) × Kin (stateOf (now (rec .entry))) (now (rec .exit)) × (runAt (now (rec .exit)) (r .progress) (set128 (r .worklist)) ≡ pass (rolesOf (stateOf (now (rec .entry)))) (takeUp (rolesOf (stateOf (now (rec .entry)))) (weightsIn w) (toleranceIn t)) (runAt (now (rec .entry)) at (set128 worklist))) × Stand (set128 (r .worklist)) (stateOf (now (rec .exit)) .standing) × (r .progress .quality ≤ 100000000) ⌝ }
 {
     let c = rec[2] as usize;
     let mut ranks = [0u64; 258];

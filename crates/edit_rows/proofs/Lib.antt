@@ -1,5 +1,1 @@
-pub mod Regions
-pub mod Partway
 pub mod Changing
-pub mod Seeking
-pub mod Removing

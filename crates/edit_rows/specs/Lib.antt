@@ -1,1 +1,1 @@
-pub mod Partway
+pub mod Neighbours

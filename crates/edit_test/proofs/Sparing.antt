@@ -164,6 +164,6 @@ spared-strikable ρ R k o lk stands =
     let ps = directPermissions ρ R k in
     same-test (grantsSpared ρ (R ∖ single k) us ps) (strikable ρ R k)
     (λ h.
-    strikable-direct ρ R o k lk .1
+    strikable-direct ρ R o k .1
     (stands, λ u p mu mp g. spared-iff ρ (R ∖ single k) us ps .0 h u p (member-iff ρ R k u .0 mu .0) (permission-iff ρ R k p .0 mp .0) mu mp g))
-    (λ h. spared-iff ρ (R ∖ single k) us ps .1 (λ u p lu lp mu mp g. strikable-direct ρ R o k lk .0 h .1 u p mu mp g))
+    (λ h. spared-iff ρ (R ∖ single k) us ps .1 (λ u p lu lp mu mp g. strikable-direct ρ R o k .0 h .1 u p mu mp g))

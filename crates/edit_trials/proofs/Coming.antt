@@ -17,8 +17,8 @@ use Rattle.model.proofs.Reading.{Ordered, immediate-iff, junior-iff}
 use Rattle.model.proofs.Building.{stands-below, senior-lower, absent-juniors, absent-permissions, absent-members}
 use Rattle.model.proofs.Changes.{struck-absent, juniors-same, permissions-same, members-same}
 use Rattle.model.proofs.Restoring.{links-counted, permissions-counted, members-counted}
-use Rattle.quality.specs.declared.quality.Counts.{Counts}
-use Rattle.quality.specs.Reading.{countsOf}
+use Rattle.quality.specs.declared.counts.Counts.{Counts}
+use Rattle.quality.specs.Numbers.{countsIn}
 use Rattle.edit_trials.specs.Trying.{over, gainedBy, Within}
 use Rattle.edit_trials.proofs.Sums.{came-losing, came-linked, over-within}
 
@@ -104,12 +104,12 @@ takenFrom ρ S k =
           (λ i. ones (immediateJuniors ρ (S ∖ single k) i ∩ immediateJuniors ρ S k));
     }
 
-module _ (ρ : Roles) (S k : ℕ) (q a : Counts) (eq : countsOf q ≡ model.counts ρ (S ∖ single k)) (ea : countsOf a ≡ takenFrom ρ S k) where
+module _ (ρ : Roles) (S k : ℕ) (q a : Counts) (eq : countsIn q ≡ model.counts ρ (S ∖ single k)) (ea : countsIn a ≡ takenFrom ρ S k) where
   -- the counts with k
-  pub came : Ordered ρ S → So (has S k) → (b r : Counts) → countsOf b ≡ gainedBy ρ S k
+  pub came : Ordered ρ S → So (has S k) → (b r : Counts) → countsIn b ≡ gainedBy ρ S k
       → (r .roles + a .roles ≡ q .roles + b .roles) × (r .members + a .members ≡ q .members + b .members) × (r .permissions + a .permissions ≡ q .permissions + b .permissions) × (r .links + a .links ≡ q .links + b .links)
-      → countsOf r ≡ model.counts ρ S
-  unfolding countsOf model.counts model.counted building takenFrom gainedBy
+      → countsIn r ≡ model.counts ρ S
+  unfolding countsIn model.counts model.counted building takenFrom gainedBy
   came o here b r eb h =
       let roles = solve (r .roles) (a .roles) (q .roles) (b .roles) (ones S) 0 (ones (S ∖ single k)) 1 (h .0) (ap (λ (x : model.Counts). x .roles) ea) (ap (λ (x : model.Counts). x .roles) eq) (ap (λ (x : model.Counts). x .roles) eb) (let e = roles-sum ρ S o k here in omega arith) in
       let members = solve (r .members) (a .members) (q .members) (b .members) _ _ _ _ (h .1) (ap (λ (x : model.Counts). x .members) ea) (ap (λ (x : model.Counts). x .members) eq) (ap (λ (x : model.Counts). x .members) eb) (members-sum ρ S o k here) in
@@ -119,7 +119,7 @@ module _ (ρ : Roles) (S k : ℕ) (q a : Counts) (eq : countsOf q ≡ model.coun
 
   -- a row loses no more than it has
   pub came-within : Within a q
-  unfolding countsOf model.counts model.counted building takenFrom
+  unfolding countsIn model.counts model.counted building takenFrom
   came-within =
       let c = candidateCount ρ in
       let R = S ∖ single k in
@@ -138,12 +138,12 @@ module _ (ρ : Roles) (S k : ℕ) (q a : Counts) (eq : countsOf q ≡ model.coun
       fewer x y = ones-subset (x ∩ y) x (∩-subset-left x y)
 
 -- the counts without k
-module _ (ρ : Roles) (S k : ℕ) (o : Ordered ρ S) (here : So (has S k)) (q b a : Counts) (eq : countsOf q ≡ model.counts ρ S) (eb : countsOf b ≡ gainedBy ρ S k)
-    (ea : countsOf a ≡ takenFrom ρ S k) where
+module _ (ρ : Roles) (S k : ℕ) (o : Ordered ρ S) (here : So (has S k)) (q b a : Counts) (eq : countsIn q ≡ model.counts ρ S) (eb : countsIn b ≡ gainedBy ρ S k)
+    (ea : countsIn a ≡ takenFrom ρ S k) where
   pub went : (r : Counts)
       → (r .roles + b .roles ≡ q .roles + a .roles) × (r .members + b .members ≡ q .members + a .members) × (r .permissions + b .permissions ≡ q .permissions + a .permissions) × (r .links + b .links ≡ q .links + a .links)
-      → countsOf r ≡ model.counts ρ (S ∖ single k)
-  unfolding countsOf model.counts model.counted building takenFrom gainedBy
+      → countsIn r ≡ model.counts ρ (S ∖ single k)
+  unfolding countsIn model.counts model.counted building takenFrom gainedBy
   went r h =
       let roles = solve (r .roles) (b .roles) (q .roles) (a .roles) (ones (S ∖ single k)) 1 (ones S) 0 (h .0) (ap (λ (x : model.Counts). x .roles) eb) (ap (λ (x : model.Counts). x .roles) eq) (ap (λ (x : model.Counts). x .roles) ea) (let e = roles-sum ρ S o k here in omega arith) in
       let members = solve (r .members) (b .members) (q .members) (a .members) _ _ _ _ (h .1) (ap (λ (x : model.Counts). x .members) eb) (ap (λ (x : model.Counts). x .members) eq) (ap (λ (x : model.Counts). x .members) ea) (sym (members-sum ρ S o k here)) in
@@ -153,7 +153,7 @@ module _ (ρ : Roles) (S k : ℕ) (o : Ordered ρ S) (here : So (has S k)) (q b 
 
   -- what k has is no more than what there is, since the rows without k lose to it no more than they have
   pub went-within : Within b q
-  unfolding countsOf model.counts model.counted building takenFrom gainedBy
+  unfolding countsIn model.counts model.counted building takenFrom gainedBy
   went-within =
       let c = candidateCount ρ in
       let R = S ∖ single k in

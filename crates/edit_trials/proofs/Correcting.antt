@@ -14,8 +14,8 @@ use Rattle.model.specs.State.{State, rolesOf}
 use Rattle.model.proofs.Bounds.{Small, counts-small}
 use Rattle.model.specs.Record.{Limits}
 use Rattle.model.proofs.Steps.{limits-ordered}
-use Rattle.quality.specs.declared.quality.Counts.{Counts}
-use Rattle.quality.specs.Reading.{countsOf, Few}
+use Rattle.quality.specs.declared.counts.Counts.{Counts}
+use Rattle.quality.specs.Numbers.{countsIn, Few}
 use Rattle.edit_trials.specs.Trying.{over}
 use Rattle.edit_trials.proofs.Sums.{over-none, over-more}
 
@@ -55,8 +55,8 @@ pub count-small : (w s n : ℕ) → s < 2 ^ w → n ≡ ones s → n ≤ w
 count-small w s n b e = rw e (ones-le w s b)
 
 -- exact counts are few
-pub exact-few : (st : State) → Limits st → (q : Counts) → countsOf q ≡ model.counts (rolesOf st) (st .standing) → Few q
-unfolding countsOf rolesOf
+pub exact-few : (st : State) → Limits st → (q : Counts) → countsIn q ≡ model.counts (rolesOf st) (st .standing) → Few q
+unfolding countsIn rolesOf
 exact-few st lim q e =
-    let s : Small (countsOf q) = rw e (counts-small (rolesOf st) (st .standing) (limits-ordered st lim) (lim .users-most) (lim .permissions-most) (lim .candidates-most)) in
+    let s : Small (countsIn q) = rw e (counts-small (rolesOf st) (st .standing) (limits-ordered st lim) (lim .users-most) (lim .permissions-most) (lim .candidates-most)) in
     record { roles = s .roles; members = s .members; permissions = s .permissions; links = let z = s .links in omega arith }

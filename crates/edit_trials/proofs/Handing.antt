@@ -15,8 +15,8 @@ use Rattle.model.specs.Lists.{setAt}
 use Rattle.model.specs.Record.{setsStart, permissionsStart, membersStart, juniorsStart}
 use Rattle.hierarchy.specs.Tables.{lessAll}
 use Rattle.hierarchy.proofs.Sieving.{lessAll-iff}
-use Rattle.quality.specs.declared.quality.Counts.{Counts}
-use Rattle.quality.specs.Reading.{countsOf}
+use Rattle.quality.specs.declared.counts.Counts.{Counts}
+use Rattle.quality.specs.Numbers.{countsIn}
 use Rattle.edit_trials.specs.Trying.{over, otherJuniors, otherSeniors, rowAt, handedAt}
 use Rattle.edit_trials.proofs.Sums.{over-same, over-zero}
 use Rattle.edit_trials.proofs.Correcting.{Part, part-start, part-more, part-all, part-small}
@@ -66,16 +66,16 @@ seniors-others c ws k j x js ex ej = ej ∙ ap (λ (y : ℕ). y ∖ single k) ex
 pub handed-all : (q : Counts) (n c : ℕ) (ws low users : List ℕ) (k s t us ps : ℕ) → us ≡ setAt 2 ws (membersStart + 2 * k)
     → ps ≡ setAt 4 ws (permissionsStart + 4 * k) → q .roles ≡ 0 → q .members ≡ over n t (λ j. ones (lessAll 2 users us (otherSeniors c ws k j)))
     → q .permissions ≡ over n s (λ i. ones (lessAll 4 (take 512 (drop setsStart ws)) ps (otherJuniors ws k i)))
-    → q .links ≡ over n s (λ i. ones (lessAll 2 low t (otherJuniors ws k i))) → countsOf q ≡ handedAt n c ws low users k s t
-unfolding countsOf handedAt
+    → q .links ≡ over n s (λ i. ones (lessAll 2 low t (otherJuniors ws k i))) → countsIn q ≡ handedAt n c ws low users k s t
+unfolding countsIn handedAt
 handed-all q n c ws low users k s t us ps eu ep er em eq el =
     let members = em ∙ ap (λ (x : ℕ). over n t (λ j. ones (lessAll 2 users x (otherSeniors c ws k j)))) eu in
     let permissions = eq ∙ ap (λ (x : ℕ). over n s (λ i. ones (lessAll 4 (take 512 (drop setsStart ws)) x (otherJuniors ws k i)))) ep in
     λ i. record { roles = er i; members = members i; permissions = permissions i; links = el i }
 
 pub row-all : (q : Counts) (ws : List ℕ) (k s t us ps : ℕ) → us ≡ setAt 2 ws (membersStart + 2 * k) → ps ≡ setAt 4 ws (permissionsStart + 4 * k)
-    → q .roles ≡ 1 → q .members ≡ ones us → q .permissions ≡ ones ps → q .links ≡ ones t + ones s → countsOf q ≡ rowAt ws k s t
-unfolding countsOf rowAt
+    → q .roles ≡ 1 → q .members ≡ ones us → q .permissions ≡ ones ps → q .links ≡ ones t + ones s → countsIn q ≡ rowAt ws k s t
+unfolding countsIn rowAt
 row-all q ws k s t us ps eu ep er em eq el =
     let members = em ∙ ap ones eu in
     let permissions = eq ∙ ap ones ep in

@@ -27,8 +27,8 @@ use Rattle.hierarchy.proofs.Sieving.{lessAll-iff}
 use Rattle.indexes.proofs.Sources.{narrow}
 use Rattle.edit_rows.proofs.Changing.{seniors-read, juniors-read, members-read}
 use Rattle.edit_rows.proofs.Removing.{permissions-read, sets-read}
-use Rattle.quality.specs.declared.quality.Counts.{Counts}
-use Rattle.quality.specs.Reading.{countsOf, Few}
+use Rattle.quality.specs.declared.counts.Counts.{Counts}
+use Rattle.quality.specs.Numbers.{countsIn, Few}
 use Rattle.edit_trials.specs.Trying.{over, gainedBy, rowAt, otherJuniors, otherSeniors, handedAt, Ready, Exact, Within}
 use Rattle.edit_trials.proofs.Sums.{over-inside}
 use Rattle.edit_trials.proofs.Striking.{permission-taken, link-taken, member-taken}
@@ -118,9 +118,9 @@ module _ (ws low users : List ℕ) (ready : Ready ws low users) (k : ℕ) where
         (λ u t. lt-of-lt-of-le (member-iff ρ Q k u .0 t .0) (narrow (stateOf ws) (ready .limits) .fewUsers)) (member-taken ρ Q ordered k stands j h)
 
     module _ (s t : ℕ) (es : s ≡ collect (candidateCount (rolesOf (stateOf ws))) (λ i. has (immediateJuniors (rolesOf (stateOf ws)) (stateOf ws .standing) i) k))
-        (et : t ≡ immediateJuniors (rolesOf (stateOf ws)) (stateOf ws .standing) k) (q b a : Counts) (eq : Exact ws q) (eb : countsOf b ≡ rowAt ws k s t)
-        (ea : (n : ℕ) → s < 2 ^ n → t < 2 ^ n → countsOf a ≡ handedAt n (getD ws 2 0) ws low users k s t) where
-      had : countsOf b ≡ gainedBy (rolesOf (stateOf ws)) (stateOf ws .standing) k
+        (et : t ≡ immediateJuniors (rolesOf (stateOf ws)) (stateOf ws .standing) k) (q b a : Counts) (eq : Exact ws q) (eb : countsIn b ≡ rowAt ws k s t)
+        (ea : (n : ℕ) → s < 2 ^ n → t < 2 ^ n → countsIn a ≡ handedAt n (getD ws 2 0) ws low users k s t) where
+      had : countsIn b ≡ gainedBy (rolesOf (stateOf ws)) (stateOf ws .standing) k
       unfolding rowAt gainedBy
       had =
           eb
@@ -143,7 +143,7 @@ module _ (ws low users : List ℕ) (ready : Ready ws low users) (k : ℕ) where
           (λ i l x. ap ones (links-row i l (senior-in i x))) in
           λ i. record { roles = 0; members = members i; permissions = permissions i; links = links i }
 
-      taken-over : countsOf a ≡ takenFrom (rolesOf (stateOf ws)) (stateOf ws .standing) k
+      taken-over : countsIn a ≡ takenFrom (rolesOf (stateOf ws)) (stateOf ws .standing) k
       taken-over =
           ea (candidateCount ρ) (rw es (collect-lt (candidateCount ρ) (λ i. has (immediateJuniors ρ Q i) k))) (rw et (immediateJuniors-lt ρ Q k)) ∙ over-read
 
@@ -152,5 +152,5 @@ module _ (ws low users : List ℕ) (ready : Ready ws low users) (k : ℕ) where
 
       pub struck-exact : (r : Counts)
           → (r .roles + b .roles ≡ q .roles + a .roles) × (r .members + b .members ≡ q .members + a .members) × (r .permissions + b .permissions ≡ q .permissions + a .permissions) × (r .links + b .links ≡ q .links + a .links)
-          → countsOf r ≡ model.counts (rolesOf (stateOf ws)) (stateOf ws .standing ∖ single k)
+          → countsIn r ≡ model.counts (rolesOf (stateOf ws)) (stateOf ws .standing ∖ single k)
       struck-exact r h = went ρ Q k ordered stands q b a eq had taken-over r h

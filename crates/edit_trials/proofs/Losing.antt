@@ -10,8 +10,8 @@ use Rattle.sets.specs.Sets.{has, _∩_, _∖_, single, collect}
 use Rattle.model.specs.Lists.{setAt}
 use Rattle.model.specs.Hierarchy.{Roles, candidateCount, immediateJuniors, directPermissions, directMembers}
 use Rattle.model.specs.Record.{setsStart, permissionsStart, membersStart, juniorsStart}
-use Rattle.quality.specs.declared.quality.Counts.{Counts}
-use Rattle.quality.specs.Reading.{countsOf}
+use Rattle.quality.specs.declared.counts.Counts.{Counts}
+use Rattle.quality.specs.Numbers.{countsIn}
 use Rattle.edit_trials.specs.Trying.{over, lostAt, gainedBy}
 use Rattle.edit_trials.proofs.Correcting.{Part, part-start, part-more, part-all, part-small}
 
@@ -42,8 +42,8 @@ module _ (w start : ℕ) (ws : List ℕ) (own : ℕ) where
 pub lost-all : (q : Counts) (n : ℕ) (ws users : List ℕ) (k s t own held : ℕ) → own ≡ setAt 4 (take 512 (drop setsStart ws)) (4 * k)
     → held ≡ setAt 2 users (2 * k) → q .roles ≡ 0 → q .members ≡ over n t (λ j. ones (setAt 2 ws (membersStart + 2 * j) ∩ held))
     → (q .permissions ≡ over n s (λ i. ones (setAt 4 ws (permissionsStart + 4 * i) ∩ own))) × (q .links ≡ over n s (λ i. ones (setAt 2 ws (juniorsStart + 2 * i) ∩ t)))
-    → countsOf q ≡ lostAt n ws users k s t
-unfolding countsOf lostAt
+    → countsIn q ≡ lostAt n ws users k s t
+unfolding countsIn lostAt
 lost-all q n ws users k s t own held eo eh er em ep =
     let members = em ∙ ap (λ (x : ℕ). over n t (λ j. ones (setAt 2 ws (membersStart + 2 * j) ∩ x))) eh in
     let permissions = ep .0 ∙ ap (λ (x : ℕ). over n s (λ i. ones (setAt 4 ws (permissionsStart + 4 * i) ∩ x))) eo in
@@ -52,8 +52,8 @@ lost-all q n ws users k s t own held eo eh er em ep =
 
 pub gained-all : (q : Counts) (ρ : Roles) (S k s t us ps : ℕ) → t ≡ immediateJuniors ρ S k → s ≡ collect (candidateCount ρ) (λ i. has (immediateJuniors ρ S i) k)
     → us ≡ directMembers ρ S k → ps ≡ directPermissions ρ S k → q .roles ≡ 1 → q .members ≡ ones us → q .permissions ≡ ones ps → q .links ≡ ones t + ones s
-    → countsOf q ≡ gainedBy ρ S k
-unfolding countsOf gainedBy
+    → countsIn q ≡ gainedBy ρ S k
+unfolding countsIn gainedBy
 gained-all q ρ S k s t us ps et es eu ep er em eq el =
     let members = em ∙ ap ones eu in
     let permissions = eq ∙ ap ones ep in

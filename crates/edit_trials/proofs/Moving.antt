@@ -26,8 +26,8 @@ use Rattle.indexes.specs.Tables.{Indexed}
 use Rattle.indexes.proofs.Sources.{numbered, narrow}
 use Rattle.edit_rows.proofs.Changing.{count, few, indexed-now, juniors-read, put-standing, put-seniors, put-juniors, members-read}
 use Rattle.edit_rows.proofs.Removing.{permissions-read, sets-read}
-use Rattle.quality.specs.declared.quality.Counts.{Counts}
-use Rattle.quality.specs.Reading.{countsOf, Few}
+use Rattle.quality.specs.declared.counts.Counts.{Counts}
+use Rattle.quality.specs.Numbers.{countsIn, Few}
 use Rattle.edit_trials.specs.Trying.{over, lostAt, gainedBy, Ready, Exact, Within}
 use Rattle.edit_trials.proofs.Sums.{over-same}
 use Rattle.edit_trials.proofs.Coming.{takenFrom, came, came-within}
@@ -111,19 +111,19 @@ module _ (ws low users : List ℕ) (ready : Ready ws low users) (k : ℕ) (lk : 
 
   module _ (s t : ℕ) (es : s ≡ collect (candidateCount (rolesOf (stateOf ws))) (λ i. has (immediateJuniors (rolesOf (stateOf ws)) (stateOf ws .standing ∪ single k) i) k))
       (et : t ≡ immediateJuniors (rolesOf (stateOf ws)) (stateOf ws .standing ∪ single k) k) (q a : Counts) (eq : Exact ws q)
-      (ea : (n : ℕ) → s < 2 ^ n → t < 2 ^ n → countsOf a ≡ lostAt n ws users k s t) where
-    taken : countsOf a ≡ takenFrom ρ S k
+      (ea : (n : ℕ) → s < 2 ^ n → t < 2 ^ n → countsIn a ≡ lostAt n ws users k s t) where
+    taken : countsIn a ≡ takenFrom ρ S k
     taken = ea (candidateCount ρ) (rw es (collect-lt (candidateCount ρ) (λ i. has (immediateJuniors ρ S i) k))) (rw et (immediateJuniors-lt ρ S k)) ∙ taken-read s t es et
 
-    without : countsOf q ≡ model.counts ρ (S ∖ single k)
+    without : countsIn q ≡ model.counts ρ (S ∖ single k)
     without = eq ∙ ap (model.counts ρ) (sym back)
 
     pub tried-within : Few q × Within a q
     tried-within = (exact-few (stateOf ws) (ready .limits) q eq, came-within ρ S k q a without taken)
 
-    pub tried-exact : (b r : Counts) → countsOf b ≡ gainedBy (rolesOf (stateOf ws)) (stateOf ws .standing ∪ single k) k
+    pub tried-exact : (b r : Counts) → countsIn b ≡ gainedBy (rolesOf (stateOf ws)) (stateOf ws .standing ∪ single k) k
         → (r .roles + a .roles ≡ q .roles + b .roles) × (r .members + a .members ≡ q .members + b .members) × (r .permissions + a .permissions ≡ q .permissions + b .permissions) × (r .links + a .links ≡ q .links + b .links)
-        → countsOf r ≡ model.counts (rolesOf (stateOf ws)) (stateOf ws .standing ∪ single k)
+        → countsIn r ≡ model.counts (rolesOf (stateOf ws)) (stateOf ws .standing ∪ single k)
     tried-exact b r eb h = came ρ S k q a without taken (restored-ordered ρ Q k lk (limits-ordered (stateOf ws) (ready .limits))) (has-with Q k) b r eb h
 
   -- the role's neighbours and what it brings, found for the standing set with it
@@ -144,8 +144,8 @@ module _ (ws low users : List ℕ) (ready : Ready ws low users) (k : ℕ) (lk : 
     pub tried-gained : (s t : ℕ) → s ≡ collect (candidateCount (rolesOf (stateOf ws))) (λ i. has (immediateJuniors (rolesOf (stateOf ws)) (stateOf ws .standing ∪ single k) i) k)
         → t ≡ immediateJuniors (rolesOf (stateOf ws)) (stateOf ws .standing ∪ single k) k → (b : Counts)
         → ((ρ : Roles) → Numbered ρ → Narrow ρ → Holds 4 (candidateCount ρ) (permissionSet ρ) (take 512 (drop setsStart ws)) → Holds 2 (candidateCount ρ) (authorisedUsers ρ) users
-        → R < 2 ^ candidateCount ρ → t ≡ immediateJuniors ρ R k → s ≡ collect (candidateCount ρ) (λ i. has (immediateJuniors ρ R i) k) → countsOf b ≡ gainedBy ρ R k)
-        → countsOf b ≡ gainedBy (rolesOf (stateOf ws)) (stateOf ws .standing ∪ single k) k
+        → R < 2 ^ candidateCount ρ → t ≡ immediateJuniors ρ R k → s ≡ collect (candidateCount ρ) (λ i. has (immediateJuniors ρ R i) k) → countsIn b ≡ gainedBy ρ R k)
+        → countsIn b ≡ gainedBy (rolesOf (stateOf ws)) (stateOf ws .standing ∪ single k) k
     tried-gained s t es et b h =
         rw same at
         (h (rolesOf (stateOf ws)) (numbered (stateOf ws) (ready .limits)) (narrow (stateOf ws) (ready .limits)) (sets-read (stateOf ws) (ready .limits) ws (ready .afresh))

@@ -14,11 +14,11 @@ use Rattle.model.specs.Record.{built, stateOf}
 use Rattle.model.specs.State.{State, rolesOf, standingNow}
 use Rattle.model.proofs.Steps.{roles-now, standing-now, limits-now, now-now, now-same}
 use Rattle.edit_rows.proofs.Changing.{standing-read}
-use Rattle.quality.specs.declared.quality.Counts.{Counts}
-use Rattle.quality.specs.Reading.{countsOf, weightsOf, Few}
+use Rattle.quality.specs.declared.counts.Counts.{Counts}
+use Rattle.quality.specs.Numbers.{countsIn, weightsOf, Few, weightsIn}
 use Rattle.edit_trials.specs.declared.progress.Progress.{Progress}
-use Rattle.edit_trials.specs.declared.progress.Weights.{Weights}
-use Rattle.edit_trials.specs.Trying.{Ready, Exact, Kin, Going, weightsIn}
+use Rattle.quality.specs.declared.weights.Weights.{Weights}
+use Rattle.edit_trials.specs.Trying.{Ready, Exact, Kin, Going}
 use Rattle.edit_trials.proofs.Correcting.{exact-few}
 use Rattle.edit_trials.proofs.Moving.{roles-count, ready-few, strike-below, restore-below, now-state, now-ready}
 
@@ -35,7 +35,7 @@ ready-weighed ws low users q ready e = exact-few (stateOf ws) (ready .limits) q 
 
 -- and give the quality of the record's standing set
 pub weighed : (ws : List ℕ) (q : Counts) (w : Weights) (x : ℕ) → Exact ws q
-    → x ≡ model.weigh (weightsOf (w .role) (w .member) (w .permission) (w .link)) (countsOf q) → x ≡ model.quality (rolesOf (stateOf ws)) (weightsIn w) (stateOf ws .standing)
+    → x ≡ model.weigh (weightsOf (w .role) (w .member) (w .permission) (w .link)) (countsIn q) → x ≡ model.quality (rolesOf (stateOf ws)) (weightsIn w) (stateOf ws .standing)
 unfolding model.quality
 weighed ws q w x e ex = ex ∙ rw (weights-in w, e) refl
 
@@ -74,11 +74,11 @@ number-known ws low users k ready l = (rw (roles-count ws low users ready k) l, 
 -- ---- a change that is weighed before it is written
 
 module _ (ws low users : List ℕ) (ready : Ready ws low users) (S : ℕ) (below : S < 2 ^ candidateCount (rolesOf (stateOf ws))) (q : Counts)
-    (e : countsOf q ≡ model.counts (rolesOf (stateOf ws)) S) where
+    (e : countsIn q ≡ model.counts (rolesOf (stateOf ws)) S) where
   pub trial-few : Few q
   trial-few = exact-few (standingNow (stateOf ws) S) (limits-now (stateOf ws) S (ready .limits) below) q (rw (roles-now (stateOf ws) S, standing-now (stateOf ws) S) e)
 
-  pub trial-weighed : (w : Weights) (x : ℕ) → x ≡ model.weigh (weightsOf (w .role) (w .member) (w .permission) (w .link)) (countsOf q)
+  pub trial-weighed : (w : Weights) (x : ℕ) → x ≡ model.weigh (weightsOf (w .role) (w .member) (w .permission) (w .link)) (countsIn q)
       → x ≡ model.quality (rolesOf (stateOf ws)) (weightsIn w) S
   unfolding model.quality
   trial-weighed w x ex = ex ∙ rw (weights-in w, e) refl
@@ -88,12 +88,12 @@ module _ (ws low users : List ℕ) (ready : Ready ws low users) (S : ℕ) (below
   trial-going after ea r er =
       record {
         ready = now-ready ws low users after ready S below ea;
-        exact = ap countsOf er ∙ rw (now-state ws low users after ready S below ea, roles-now (stateOf ws) S, standing-now (stateOf ws) S) e;
+        exact = ap countsIn er ∙ rw (now-state ws low users after ready S below ea, roles-now (stateOf ws) S, standing-now (stateOf ws) S) e;
       }
 
 -- a restoration
 module _ (ws low users : List ℕ) (ready : Ready ws low users) (k : ℕ) (lk : k < candidateCount (rolesOf (stateOf ws))) (q : Counts)
-    (e : countsOf q ≡ model.counts (rolesOf (stateOf ws)) (stateOf ws .standing ∪ single k)) where
+    (e : countsIn q ≡ model.counts (rolesOf (stateOf ws)) (stateOf ws .standing ∪ single k)) where
   abbrev S : ℕ
   S = stateOf ws .standing ∪ single k
 
@@ -103,7 +103,7 @@ module _ (ws low users : List ℕ) (ready : Ready ws low users) (k : ℕ) (lk : 
   pub tried-few : Few q
   tried-few = trial-few ws low users ready S back-below q e
 
-  pub tried-weighed : (w : Weights) (x : ℕ) → x ≡ model.weigh (weightsOf (w .role) (w .member) (w .permission) (w .link)) (countsOf q)
+  pub tried-weighed : (w : Weights) (x : ℕ) → x ≡ model.weigh (weightsOf (w .role) (w .member) (w .permission) (w .link)) (countsIn q)
       → x ≡ model.quality (rolesOf (stateOf ws)) (weightsIn w) (stateOf ws .standing ∪ single k)
   tried-weighed w x ex = trial-weighed ws low users ready S back-below q e w x ex
 
@@ -116,7 +116,7 @@ module _ (ws low users : List ℕ) (ready : Ready ws low users) (k : ℕ) (lk : 
 
 -- a strike
 module _ (ws low users : List ℕ) (ready : Ready ws low users) (k : ℕ) (q : Counts)
-    (e : countsOf q ≡ model.counts (rolesOf (stateOf ws)) (stateOf ws .standing ∖ single k)) where
+    (e : countsIn q ≡ model.counts (rolesOf (stateOf ws)) (stateOf ws .standing ∖ single k)) where
   abbrev R : ℕ
   R = stateOf ws .standing ∖ single k
 
@@ -126,7 +126,7 @@ module _ (ws low users : List ℕ) (ready : Ready ws low users) (k : ℕ) (q : C
   pub struck-few : Few q
   struck-few = trial-few ws low users ready R out-below q e
 
-  pub struck-weighed : (w : Weights) (x : ℕ) → x ≡ model.weigh (weightsOf (w .role) (w .member) (w .permission) (w .link)) (countsOf q)
+  pub struck-weighed : (w : Weights) (x : ℕ) → x ≡ model.weigh (weightsOf (w .role) (w .member) (w .permission) (w .link)) (countsIn q)
       → x ≡ model.quality (rolesOf (stateOf ws)) (weightsIn w) (stateOf ws .standing ∖ single k)
   struck-weighed w x ex = trial-weighed ws low users ready R out-below q e w x ex
 

@@ -16,10 +16,10 @@ use Rattle.model.specs.State.{State, rolesOf, standingNow}
 use Rattle.model.specs.Machine.{Run}
 use Rattle.hierarchy.specs.Tables.{lessAll}
 use Rattle.indexes.specs.Tables.{Indexed}
-use Rattle.quality.specs.declared.quality.Counts.{Counts}
-use Rattle.quality.specs.Reading.{countsOf}
+use Rattle.quality.specs.declared.counts.Counts.{Counts}
+use Rattle.quality.specs.Numbers.{countsIn}
 use Rattle.edit_trials.specs.declared.progress.Progress.{Progress}
-use Rattle.edit_trials.specs.declared.progress.Weights.{Weights}
+use Rattle.quality.specs.declared.weights.Weights.{Weights}
 use Rattle.edit_trials.specs.declared.restore.Restoration.{Restoration}
 use Rattle.edit_trials.specs.declared.strike.Strike.{Strike}
 
@@ -83,7 +83,7 @@ pub record Ready (ws low users : List ℕ) : Type 0 where
 
 -- q are the counts of its building
 abbrev pub Exact : List ℕ → Counts → Type 0
-Exact ws q = countsOf q ≡ model.counts (rolesOf (stateOf ws)) (stateOf ws .standing)
+Exact ws q = countsIn q ≡ model.counts (rolesOf (stateOf ws)) (stateOf ws .standing)
 
 -- none of the first counts is above the second
 pub record Within (a b : Counts) : Type 0 where
@@ -112,14 +112,14 @@ pub record Going (ws low users : List ℕ) (g : Progress) : Type 0 where
 
 -- what a restoration of role k would leave: the counts, and its immediate seniors and juniors
 pub record Restores (ws : List ℕ) (k : ℕ) (r : Restoration) : Type 0 where
-  pub counts : countsOf (r .counts) ≡ model.counts (rolesOf (stateOf ws)) (stateOf ws .standing ∪ single k)
+  pub counts : countsIn (r .counts) ≡ model.counts (rolesOf (stateOf ws)) (stateOf ws .standing ∪ single k)
   pub seniors : set128 (r .seniors)
       ≡ collect (candidateCount (rolesOf (stateOf ws))) (λ i. has (immediateJuniors (rolesOf (stateOf ws)) (stateOf ws .standing ∪ single k) i) k)
   pub juniors : set128 (r .juniors) ≡ immediateJuniors (rolesOf (stateOf ws)) (stateOf ws .standing ∪ single k) k
 
 -- what a strike of role k would leave: the counts; and its immediate seniors and juniors
 pub record Strikes (ws : List ℕ) (k : ℕ) (r : Strike) : Type 0 where
-  pub counts : countsOf (r .counts) ≡ model.counts (rolesOf (stateOf ws)) (stateOf ws .standing ∖ single k)
+  pub counts : countsIn (r .counts) ≡ model.counts (rolesOf (stateOf ws)) (stateOf ws .standing ∖ single k)
   pub seniors : set128 (r .seniors)
       ≡ collect (candidateCount (rolesOf (stateOf ws))) (λ i. has (immediateJuniors (rolesOf (stateOf ws)) (stateOf ws .standing) i) k)
   pub juniors : set128 (r .juniors) ≡ immediateJuniors (rolesOf (stateOf ws)) (stateOf ws .standing) k

@@ -1,6 +1,6 @@
 ghost use mathlib.Core.Path.{_≡_};
 ghost use Prim.Native.Nat.{_+_};
-ghost use Rattle.quality.specs.Reading.{Few};
+ghost use Rattle.quality.specs.Numbers.{Few};
 ghost use Rattle.edit_trials.specs.Trying.{Within};
 use quality::Counts;
 

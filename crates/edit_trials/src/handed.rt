@@ -6,7 +6,7 @@ ghost use lib.ListN.{length, take, drop};
 ghost use Rattle.sets.specs.Held.{set128, set256};
 ghost use Rattle.model.specs.Record.{recordLength, setsStart};
 ghost use Rattle.hierarchy.specs.Tables.{lessAll};
-ghost use Rattle.quality.specs.Reading.{countsOf, Few};
+ghost use Rattle.quality.specs.Numbers.{countsIn, Few};
 ghost use Rattle.edit_trials.specs.Trying.{over, otherJuniors, otherSeniors, handedAt};
 use columns::column;
 use hierarchy::less128;
@@ -98,7 +98,7 @@ pub fn handed(
     juniors: Set128,
 ) -> Counts
     requires { ⌜ (length (now rec) ≡ recordLength) × (length (now low) ≡ 256) × (length (now users) ≡ 256) × (c ≤ 128) × (k < 128) ⌝ }
-    ensures { λ r. ⌜ Few r × ((n : ℕ) → set128 seniors < 2 ^ n → set128 juniors < 2 ^ n → countsOf r ≡ handedAt n c (now (rec .entry)) (now (low .entry)) (now (users .entry)) k (set128 seniors) (set128 juniors)) ⌝ }
+    ensures { λ r. ⌜ Few r × ((n : ℕ) → set128 seniors < 2 ^ n → set128 juniors < 2 ^ n → countsIn r ≡ handedAt n c (now (rec .entry)) (now (low .entry)) (now (users .entry)) k (set128 seniors) (set128 juniors)) ⌝ }
 {
     let members = members_handed(rec, users, c, k, juniors, load128(rec, MEMBERS + 2 * k));
     let permissions = permissions_handed(rec, k, seniors, load256(rec, PERMISSIONS + 4 * k));

@@ -7,7 +7,7 @@ ghost use Rattle.sets.specs.Held.{set128, set256};
 ghost use Rattle.sets.specs.Sets.{_∩_};
 ghost use Rattle.model.specs.Lists.{setAt};
 ghost use Rattle.model.specs.Record.{recordLength, permissionsStart, membersStart, juniorsStart};
-ghost use Rattle.quality.specs.Reading.{countsOf};
+ghost use Rattle.quality.specs.Numbers.{countsIn};
 ghost use Rattle.edit_trials.specs.Trying.{over, lostAt};
 use hierarchy::lowest_item;
 use quality::Counts;
@@ -61,7 +61,7 @@ fn lost_below(rec: &[u64], juniors: Set128, own: Set128) -> usize
 // What the neighbours of k would lose to it.
 pub fn lost(rec: &[u64], users: &[u64], k: usize, seniors: Set128, juniors: Set128) -> Counts
     requires { ⌜ (length (now rec) ≡ recordLength) × (length (now users) ≡ 256) × (k < 128) ⌝ }
-    ensures { λ r. ⌜ ((n : ℕ) → set128 seniors < 2 ^ n → set128 juniors < 2 ^ n → countsOf r ≡ lostAt n (now (rec .entry)) (now (users .entry)) k (set128 seniors) (set128 juniors)) ⌝ }
+    ensures { λ r. ⌜ ((n : ℕ) → set128 seniors < 2 ^ n → set128 juniors < 2 ^ n → countsIn r ≡ lostAt n (now (rec .entry)) (now (users .entry)) k (set128 seniors) (set128 juniors)) ⌝ }
 {
     let above = lost_above(
         rec,

@@ -10,7 +10,7 @@ ghost use Rattle.model.specs.Record.{recordLength, setsStart, stateOf};
 ghost use Rattle.model.specs.State.{rolesOf};
 ghost use Rattle.tables.specs.Tables.{Holds};
 ghost use Rattle.hierarchy.specs.Tables.{Numbered, Narrow};
-ghost use Rattle.quality.specs.Reading.{countsOf, Few};
+ghost use Rattle.quality.specs.Numbers.{countsIn, Few};
 ghost use Rattle.edit_trials.specs.Trying.{Ready, Exact, gainedBy, Restores};
 use crate::count::corrected;
 use crate::lost::lost;
@@ -42,7 +42,7 @@ fn gained(
     juniors: Set128,
 ) -> Counts
     requires { ⌜ (length (now rec) ≡ recordLength) × (length (now users) ≡ 256) × (k < 128) ⌝ }
-    ensures { λ r. ⌜ Few r × ((ρ : Roles) → Numbered ρ → Narrow ρ → Holds 4 (candidateCount ρ) (permissionSet ρ) (take 512 (drop setsStart (now (rec .entry)))) → Holds 2 (candidateCount ρ) (authorisedUsers ρ) (now (users .entry)) → set128 standing < 2 ^ candidateCount ρ → set128 juniors ≡ immediateJuniors ρ (set128 standing) k → set128 seniors ≡ collect (candidateCount ρ) (λ i. has (immediateJuniors ρ (set128 standing) i) k) → countsOf r ≡ gainedBy ρ (set128 standing) k) ⌝ }
+    ensures { λ r. ⌜ Few r × ((ρ : Roles) → Numbered ρ → Narrow ρ → Holds 4 (candidateCount ρ) (permissionSet ρ) (take 512 (drop setsStart (now (rec .entry)))) → Holds 2 (candidateCount ρ) (authorisedUsers ρ) (now (users .entry)) → set128 standing < 2 ^ candidateCount ρ → set128 juniors ≡ immediateJuniors ρ (set128 standing) k → set128 seniors ≡ collect (candidateCount ρ) (λ i. has (immediateJuniors ρ (set128 standing) i) k) → countsIn r ≡ gainedBy ρ (set128 standing) k) ⌝ }
 {
     let members = members_of(users, seniors, standing, k).count();
     let permissions = permissions_of(&rec[SETS..PERMISSIONS], juniors, standing, k).count();

@@ -6,7 +6,7 @@ ghost use lib.ListN.{length};
 ghost use Rattle.sets.specs.Held.{set128};
 ghost use Rattle.sets.specs.Sets.{has};
 ghost use Rattle.model.specs.Record.{recordLength, stateOf};
-ghost use Rattle.quality.specs.Reading.{countsOf};
+ghost use Rattle.quality.specs.Numbers.{countsIn};
 ghost use Rattle.edit_trials.specs.Trying.{Ready, Exact, rowAt, Strikes};
 use crate::count::corrected;
 use crate::handed::handed;
@@ -30,7 +30,7 @@ pub struct Strike {
 // What k has: its row, and a link from each senior.
 fn row_of(rec: &[u64], k: usize, seniors: Set128, juniors: Set128) -> Counts
     requires { ⌜ (length (now rec) ≡ recordLength) × (k < 128) ⌝ }
-    ensures { λ r. ⌜ countsOf r ≡ rowAt (now (rec .entry)) k (set128 seniors) (set128 juniors) ⌝ }
+    ensures { λ r. ⌜ countsIn r ≡ rowAt (now (rec .entry)) k (set128 seniors) (set128 juniors) ⌝ }
 {
     let members = load128(rec, MEMBERS + 2 * k).count();
     let permissions = load256(rec, PERMISSIONS + 4 * k).count();

@@ -7,7 +7,7 @@ use mathlib.Core.List.{List}
 use Prim.Native.Nat.{ℕ, _*_, _^_, _<_}
 use native.Mathlib.Nat.{lt-of-lt-of-le}
 use borrow.Author.Tests.{not-true, not-false}
-use Rattle.sets.specs.Sets.{has, _∩_, collect}
+use Rattle.sets.specs.Sets.{has, _∩_}
 use Rattle.sets.proofs.Truth.{So-not}
 use Rattle.sets.proofs.Items.{same-set, item-below}
 use Rattle.sets.proofs.Order.{collect-iff, ∩-lt}
@@ -18,7 +18,7 @@ use Rattle.model.proofs.Reading.{Ordered, user-iff, junior-iff, permission-iff}
 use Rattle.model.proofs.Building.{stands-below}
 use Rattle.model.proofs.Shortcuts.{juniors-maximal, permission-immediate, member-immediate}
 use Rattle.tables.specs.Tables.{Holds}
-use Rattle.hierarchy.specs.Tables.{Numbered, Narrow, lessAll}
+use Rattle.hierarchy.specs.Tables.{Numbered, Narrow, lessAll, immediateSeniors}
 use Rattle.hierarchy.proofs.Sieving.{lessAll-iff}
 
 pub ordered : (ρ : Roles) (R : ℕ) → Numbered ρ → R < 2 ^ candidateCount ρ → Ordered ρ R
@@ -74,7 +74,7 @@ permissions-found ρ R k x js table n w h b t ex ej =
 -- ---- members
 
 pub members-found : (ρ : Roles) (R k x is : ℕ) (users : List ℕ) → Numbered ρ → Narrow ρ → Holds 2 (candidateCount ρ) (authorisedUsers ρ) users
-    → R < 2 ^ candidateCount ρ → So (has R k) → x ≡ setAt 2 users (2 * k) → is ≡ collect (candidateCount ρ) (λ i. has (immediateJuniors ρ R i) k)
+    → R < 2 ^ candidateCount ρ → So (has R k) → x ≡ setAt 2 users (2 * k) → is ≡ immediateSeniors ρ R k
     → lessAll 2 users x is ≡ directMembers ρ R k
 members-found ρ R k x is users n w h b t ex ei =
     let o = ordered ρ R n b in

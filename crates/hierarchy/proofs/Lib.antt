@@ -2,3 +2,4 @@ pub mod Extremes
 pub mod Sieving
 pub mod Building
 pub mod Seeking
+pub mod Reading

@@ -19,7 +19,7 @@ use Rattle.model.proofs.Reading.{senior-iff, immediate-iff, junior-iff}
 use Rattle.model.proofs.Building.{stands-below}
 use Rattle.model.proofs.Shortcuts.{lower-iff}
 use Rattle.tables.specs.Tables.{Holds}
-use Rattle.hierarchy.specs.Tables.{Numbered, Lowest}
+use Rattle.hierarchy.specs.Tables.{Numbered, Lowest, immediateSeniors}
 use Rattle.hierarchy.proofs.Building.{ordered}
 
 -- i is an immediate senior of k
@@ -147,7 +147,7 @@ module _ (ρ : Roles) (n : Numbered ρ) (R : ℕ) (b : R < 2 ^ candidateCount ρ
                 (s .every a h y));
           }
 
-    sorted-all : (found rest : ℕ) → Sorted ρ R k found rest → rest ≡ 0 → found ≡ collect (candidateCount ρ) (λ i. has (immediateJuniors ρ R i) k)
+    sorted-all : (found rest : ℕ) → Sorted ρ R k found rest → rest ≡ 0 → found ≡ immediateSeniors ρ R k
     sorted-all found rest s e =
         let test : ℕ → Bool = λ i. has (immediateJuniors ρ R i) k in
         same-set found (collect (candidateCount ρ) test)
@@ -161,7 +161,7 @@ module _ (ρ : Roles) (n : Numbered ρ) (R : ℕ) (b : R < 2 ^ candidateCount ρ
         (s .every i (a .0) (a .1)))
 
   -- a role that does not stand has no seniors
-  none-above : (k : ℕ) → has R k ≡ false → collect (candidateCount ρ) (λ i. has (immediateJuniors ρ R i) k) ≡ 0
+  none-above : (k : ℕ) → has R k ≡ false → immediateSeniors ρ R k ≡ 0
   none-above k h =
       let test : ℕ → Bool = λ i. has (immediateJuniors ρ R i) k in
       empty-of (collect (candidateCount ρ) test)
@@ -174,7 +174,7 @@ module _ (ρ : Roles) (n : Numbered ρ) (R : ℕ) (b : R < 2 ^ candidateCount ρ
 module _ (low : List ℕ) (R k : ℕ) where
   pub sought-absent : (r : ℕ) → has R k ≡ false → r ≡ 0
       → (ρ : Roles) → Numbered ρ → Holds 2 (candidateCount ρ) (lower ρ) low → R < 2 ^ candidateCount ρ
-      → r ≡ collect (candidateCount ρ) (λ i. has (immediateJuniors ρ R i) k)
+      → r ≡ immediateSeniors ρ R k
   sought-absent r h e ρ n l b = e ∙ sym (none-above ρ n R b k h)
 
   module _ (hk : So (has R k)) where
@@ -201,5 +201,5 @@ module _ (low : List ℕ) (R k : ℕ) where
 
     pub sought-all : (found rest : ℕ) → Sought low R k found rest → rest ≡ 0
         → (ρ : Roles) → Numbered ρ → Holds 2 (candidateCount ρ) (lower ρ) low → R < 2 ^ candidateCount ρ
-        → found ≡ collect (candidateCount ρ) (λ i. has (immediateJuniors ρ R i) k)
+        → found ≡ immediateSeniors ρ R k
     sought-all found rest inv e ρ n l b = sorted-all ρ n R b k hk found rest (inv ρ n l b) e

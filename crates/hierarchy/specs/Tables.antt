@@ -7,7 +7,7 @@ use Prim.Native.Nat.{ℕ, _*_, _^_, _<_, _≤_}
 use Rattle.sets.specs.Truth.{_and_, none}
 use Rattle.sets.specs.Sets.{has, properSubset, collect}
 use Rattle.model.specs.Lists.{setAt}
-use Rattle.model.specs.Hierarchy.{Roles, candidateCount, permissionSet}
+use Rattle.model.specs.Hierarchy.{Roles, candidateCount, permissionSet, immediateJuniors}
 
 -- at most 128 candidates, numbered so that a proper subset has a lower number
 pub record Numbered (ρ : Roles) : Type 0 where
@@ -20,6 +20,10 @@ pub record Narrow (ρ : Roles) : Type 0 where
   pub fewUsers : ρ .users ≤ 128
   pub fewPermissions : ρ .permissions ≤ 256
   pub inside : (k : ℕ) → k < candidateCount ρ → permissionSet ρ k < 2 ^ ρ .permissions
+
+-- the immediate seniors of k: the roles that have it among their immediate juniors
+abbrev pub immediateSeniors : Roles → ℕ → ℕ → ℕ
+immediateSeniors ρ R k = collect (candidateCount ρ) (λ i. has (immediateJuniors ρ R i) k)
 
 -- the items of s that no entry of the table has whose number is in js
 unfoldable pub lessAll : ℕ → List ℕ → ℕ → ℕ → ℕ

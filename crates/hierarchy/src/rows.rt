@@ -3,11 +3,10 @@ ghost use mathlib.Core.Path.{_≡_};
 ghost use Prim.Native.Nat.{_*_, _^_, _<_};
 ghost use lib.ListN.{length};
 ghost use Rattle.sets.specs.Held.{set128, set256};
-ghost use Rattle.sets.specs.Sets.{has, collect};
 ghost use Rattle.model.specs.Hierarchy.{Roles, candidateCount, permissionSet, authorisedUsers, immediateJuniors, directPermissions, directMembers};
 ghost use Rattle.model.specs.Indexes.{lower};
 ghost use Rattle.tables.specs.Tables.{Holds};
-ghost use Rattle.hierarchy.specs.Tables.{Numbered, Narrow};
+ghost use Rattle.hierarchy.specs.Tables.{Numbered, Narrow, immediateSeniors};
 use crate::sieve::less128;
 use crate::sieve::less256;
 use crate::sieve::maximal_of;
@@ -41,7 +40,7 @@ pub fn permissions_of(table: &[u64], juniors: Set128, standing: Set128, k: usize
 // The users of k less those of its immediate seniors.
 pub fn members_of(users: &[u64], seniors: Set128, standing: Set128, k: usize) -> Set128
     requires { ⌜ (length (now users) ≡ 256) × (k < 128) ⌝ }
-    ensures { λ r. ⌜ ((ρ : Roles) → Numbered ρ → Narrow ρ → Holds 2 (candidateCount ρ) (authorisedUsers ρ) (now (users .entry)) → set128 standing < 2 ^ candidateCount ρ → set128 seniors ≡ collect (candidateCount ρ) (λ i. has (immediateJuniors ρ (set128 standing) i) k) → set128 r ≡ directMembers ρ (set128 standing) k) ⌝ }
+    ensures { λ r. ⌜ ((ρ : Roles) → Numbered ρ → Narrow ρ → Holds 2 (candidateCount ρ) (authorisedUsers ρ) (now (users .entry)) → set128 standing < 2 ^ candidateCount ρ → set128 seniors ≡ immediateSeniors ρ (set128 standing) k → set128 r ≡ directMembers ρ (set128 standing) k) ⌝ }
 {
     if !standing.contains(k) {
         return Set128::empty();

@@ -4,12 +4,12 @@ ghost use Prim.Native.Nat.{_^_, _<_};
 ghost use lib.Dec.{eqb};
 ghost use lib.ListN.{length};
 ghost use Rattle.sets.specs.Held.{set128};
-ghost use Rattle.sets.specs.Sets.{has, _∩_, _∪_, single, collect};
+ghost use Rattle.sets.specs.Sets.{has, _∩_, _∪_, single};
 ghost use Rattle.sets.specs.Truth.{_and_, if_then_else_};
-ghost use Rattle.model.specs.Hierarchy.{Roles, candidateCount, immediateJuniors};
+ghost use Rattle.model.specs.Hierarchy.{Roles, candidateCount};
 ghost use Rattle.model.specs.Indexes.{lower};
 ghost use Rattle.tables.specs.Tables.{Holds};
-ghost use Rattle.hierarchy.specs.Tables.{Numbered};
+ghost use Rattle.hierarchy.specs.Tables.{Numbered, immediateSeniors};
 use crate::items::lowest_item;
 use sets::Set128;
 use tables::load128;
@@ -29,7 +29,7 @@ fn with_senior(found: Set128, i: usize, below: Set128, k: usize) -> Set128
 // has only to be held against those that were found before it.
 pub fn seniors_of(low: &[u64], standing: Set128, k: usize) -> Set128
     requires { ⌜ length (now low) ≡ 256 ⌝ }
-    ensures { λ r. ⌜ ((ρ : Roles) → Numbered ρ → Holds 2 (candidateCount ρ) (lower ρ) (now (low .entry)) → set128 standing < 2 ^ candidateCount ρ → set128 r ≡ collect (candidateCount ρ) (λ i. has (immediateJuniors ρ (set128 standing) i) k)) ⌝ }
+    ensures { λ r. ⌜ ((ρ : Roles) → Numbered ρ → Holds 2 (candidateCount ρ) (lower ρ) (now (low .entry)) → set128 standing < 2 ^ candidateCount ρ → set128 r ≡ immediateSeniors ρ (set128 standing) k) ⌝ }
 {
     if !standing.contains(k) {
         return Set128::empty();

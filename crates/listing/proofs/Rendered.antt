@@ -26,12 +26,12 @@ use Rattle.model.proofs.Bounds.{weightsAllowed-iff}
 use Rattle.model.proofs.Refusals.{unfit-iff}
 use Rattle.model.proofs.Claim.{claim}
 use Rattle.indexes.proofs.Sources.{narrow}
-use Rattle.quality.specs.Reading.{weightsOf}
+use Rattle.quality.specs.Numbers.{weightsOf, toleranceOf}
 use Rattle.stores.specs.Stores.{putAt}
 use Rattle.call_eliminate.specs.declared.EliminateAnswer.{EliminateAnswer}
 use Rattle.call_review.specs.declared.ReviewAnswer.{ReviewAnswer}
 use Rattle.call_quality.specs.declared.QualityAnswer.{QualityAnswer}
-use Rattle.call_eliminate.specs.Answers.{toleranceOf, eliminateGiven}
+use Rattle.call_eliminate.specs.Answers.{eliminateGiven}
 use Rattle.call_review.specs.Answers.{reviewGiven}
 use Rattle.call_quality.specs.Answers.{qualityTold}
 use Rattle.listing.specs.Listing.{plainWeights, plainTolerance, settled, line, linesTo, headLine, roleLine, rolesText}
@@ -116,7 +116,7 @@ sound-quality : (ws : List ℕ) (w : Weights) → So (sound ws) → So (weightsA
     → qualityOf ws w .value ≡ weigh w (counted (candidateCount (rolesOf (stateOf ws))) (roleRowsOf ws) (stateOf ws .standing))
 unfolding qualityOf
 sound-quality ws w h ok =
-    told-value _ _ (if-passes (eqb (unfit ws) 0) (unfit ws) _ (eqb-iff (unfit ws) 0 .1 (unfit-iff ws h)) ∙ if-passes (weightsAllowed w) 9 0 ok)
+    told-value _ _ (if-passes (eqb (unfit ws) 0) (unfit ws) _ (eqb-iff (unfit ws) 0 .1 (unfit-iff ws .1 h)) ∙ if-passes (weightsAllowed w) 9 0 ok)
 
 pub quality-is : (ws : List ℕ) (r : QualityAnswer) → So (sound ws) → qualityTold r ≡ qualityOf ws (weightsOf 1 1 1 1)
     → r .quality ≡ quality (rolesOf (stateOf ws)) plainWeights (stateOf ws .standing)

@@ -27,7 +27,7 @@ use Rattle.model.proofs.Lists.{length-rowsAt}
 use Rattle.model.proofs.Record.{state-back, withinLimits-iff, rowsWithin-iff}
 use Rattle.model.proofs.Steps.{Fit, fresh-fit}
 use Rattle.model.proofs.Claim.{fit-sound, claim, after-sound, after-state, edit-replied}
-use Rattle.quality.specs.Reading.{weightsOf}
+use Rattle.quality.specs.Numbers.{weightsOf, toleranceOf}
 use Rattle.stores.specs.Stores.{putAt}
 use Rattle.panel.specs.declared.list.Outcome.{Outcome}
 use Rattle.panel.specs.declared.list.Served.the-variants.{Unreadable, Refused, Mined}
@@ -39,7 +39,7 @@ use Rattle.call_review.specs.declared.ReviewAnswer.{ReviewAnswer}
 use Rattle.call_mine.specs.Answers.{mined}
 use Rattle.call_strike.specs.Answers.{afterStrike}
 use Rattle.call_restore.specs.Answers.{afterRestore}
-use Rattle.call_eliminate.specs.Answers.{eliminateGiven, toleranceOf}
+use Rattle.call_eliminate.specs.Answers.{eliminateGiven}
 use Rattle.call_review.specs.Answers.{reviewGiven}
 use Rattle.panel.specs.Answers.{outcome}
 use Rattle.panel.specs.Lists.{callAt, callsFrom, callsIn, readable, answerWords, Condition3, ServedAs}
@@ -72,7 +72,7 @@ module _ (ws : List ℕ) (i : ℕ) where
   call-review d d' d'' =
       if-false (eqb kind 0) _ _ (other-kind 0 d) ∙ if-false (eqb kind 1) _ _ (other-kind 1 d') ∙ if-false (eqb kind 2) _ _ (other-kind 2 d'')
 
--- the reply of each call as an outcome
+-- the answer of each call as an outcome
 module _ (cs : List ℕ) (at : ℕ) (ws after : List ℕ) (r : Outcome) where
   pub served-strike : (a : StrikeAnswer) → (r .code ≡ a .code) × (r .changed ≡ 0) × (r .examined ≡ 0) → afterStrike a after ≡ edit ws (strike (getD cs (at + 1) 0)) → getD cs at 0 ≡ 0
       → outcome r after ≡ edit ws (callAt cs at)
@@ -132,7 +132,7 @@ kinds-none ws = all-iff 0 (λ i. ltb (getD ws (7 * i) 0) 4) .1 (λ i l. let z : 
 pub kinds-more : (ws : List ℕ) (i : ℕ) → So (all i (λ i. ltb (getD ws (7 * i) 0) 4)) → getD ws (7 * i) 0 < 4 → So (all (i + 1) (λ i. ltb (getD ws (7 * i) 0) 4))
 kinds-more ws i h l = all-more i (λ i. ltb (getD ws (7 * i) 0) 4) h (ltb-iff (getD ws (7 * i) 0) 4 .1 l)
 
--- ---- the calls one after the linksBut: `ws` and `out` are what the first i have left
+-- ---- the calls one after the other: `ws` and `out` are what the first i have left
 
 pub record Serving (calls start : List ℕ) (n i : ℕ) (ws out : List ℕ) : Type 0 where
   pub words : wordsAfter start (callsFrom calls 0 n) ≡ wordsAfter ws (callsFrom calls (7 * i) (n - i))
@@ -264,10 +264,10 @@ condition3 st cs ws out fit ew eo =
       no-return = λ k. subst (λ (l : List ℕ). Chain (link (roleRowsOf l)) k k → ⊥) (sym ew) (afterStay .no-return k);
       no-replacement = λ x y. subst (λ (l : List ℕ). So (link (roleRowsOf l) x y) → Chain (linksBut (link (roleRowsOf l)) x y) x y → ⊥) (sym ew) (afterStay .no-replacement x y);
       strikes-altered = λ before rest k e code.
-          subst (λ (x : State). Altered (rolesOf (stateAfter x before)) (stateAfter x before .standing) k (wordsAfter (built st) before) (wordsAfter (built st) (before ++ (strike k ∷ [])))) back
+          subst (λ (x : State). Altered (rolesOf (stateAfter x before)) (stateAfter x before .standing) (single k) (wordsAfter (built st) before) (wordsAfter (built st) (before ++ (strike k ∷ [])))) back
           (afterStay .strikes-altered before rest k e (accepted-too before (strike k) code));
       restorations-altered = λ before rest k e code.
-          subst (λ (x : State). Altered (rolesOf (stateAfter x before)) (stateAfter x (before ++ (restore k ∷ [])) .standing) k (wordsAfter (built st) before) (wordsAfter (built st) (before ++ (restore k ∷ [])))) back
+          subst (λ (x : State). Altered (rolesOf (stateAfter x before)) (stateAfter x (before ++ (restore k ∷ [])) .standing) (single k) (wordsAfter (built st) before) (wordsAfter (built st) (before ++ (restore k ∷ [])))) back
           (afterStay .restorations-altered before rest k e (accepted-too before (restore k) code));
     }
   where

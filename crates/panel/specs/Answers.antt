@@ -1,4 +1,4 @@
--- The reply of any call that edits, with the record as it leaves it, in the form in which the model gives it.
+-- The answer of any call that edits, with the record as it leaves it, in the form in which the model gives it.
 -- Assumes nothing.
 use mathlib.Core.List.{List}
 use Prim.Native.Nat.{ℕ}

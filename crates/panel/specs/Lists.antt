@@ -1,4 +1,4 @@
--- A list of calls as words, served one after the linksBut; and condition 3 of it, one named clause for each part.
+-- A list of calls as words, served one after the other; and condition 3 of it, one named clause for each part.
 -- Assumes nothing.
 use mathlib.Core.Path.{_≡_}
 use mathlib.Core.Bool.{Bool, So}
@@ -19,8 +19,7 @@ use Rattle.model.specs.Machine.{Call, step, stateAfter, Reply, repliesTo}
 use Rattle.model.specs.Machine.Call.{strike, restore, eliminate, review}
 use Rattle.model.specs.Calls.{miningRefusal}
 use Rattle.model.specs.Claim.{wordsAfter}
-use Rattle.quality.specs.Reading.{weightsOf}
-use Rattle.call_eliminate.specs.Answers.{toleranceOf}
+use Rattle.quality.specs.Numbers.{weightsOf, toleranceOf}
 use Rattle.panel.specs.declared.list.Served.{Served}
 use Rattle.panel.specs.declared.list.Served.the-variants.{Unreadable, Refused, Mined}
 
@@ -43,7 +42,7 @@ callsFrom ws i (suc n) = callAt ws i ∷ callsFrom ws (i + 7) n
 unfoldable pub callsIn : List ℕ → List Call
 callsIn ws = callsFrom ws 0 (length ws / 7)
 
--- whole calls, each of a kind below 4, and three words for each reply
+-- whole calls, each of a kind below 4, and three words for each answer
 unfoldable pub readable : List ℕ → List ℕ → Bool
 readable ws out =
     eqb (7 * (length ws / 7)) (length ws) and eqb (length out) (3 * (length ws / 7)) and all (length ws / 7) (λ i. ltb (getD ws (7 * i) 0) 4)
@@ -71,9 +70,9 @@ pub record Condition3 (st : State) (calls : List Call) (ws out : List ℕ) : Typ
   pub no-replacement : (x y : ℕ) → So (link (roleRowsOf ws) x y) → Chain (linksBut (link (roleRowsOf ws)) x y) x y → ⊥
   -- "each strike or restoration altered only the marks and rows that 01 allows": for every prefix that ends in an accepted one
   pub strikes-altered : (before rest : List Call) (k : ℕ) → calls ≡ before ++ (strike k ∷ rest) → step (stateAfter st before) (strike k) .replied .code ≡ 0
-      → Altered (rolesOf (stateAfter st before)) (stateAfter st before .standing) k (wordsAfter (built st) before) (wordsAfter (built st) (before ++ (strike k ∷ [])))
+      → Altered (rolesOf (stateAfter st before)) (stateAfter st before .standing) (single k) (wordsAfter (built st) before) (wordsAfter (built st) (before ++ (strike k ∷ [])))
   pub restorations-altered : (before rest : List Call) (k : ℕ) → calls ≡ before ++ (restore k ∷ rest) → step (stateAfter st before) (restore k) .replied .code ≡ 0
-      → Altered (rolesOf (stateAfter st before)) (stateAfter st (before ++ (restore k ∷ [])) .standing) k (wordsAfter (built st) before) (wordsAfter (built st) (before ++ (restore k ∷ [])))
+      → Altered (rolesOf (stateAfter st before)) (stateAfter st (before ++ (restore k ∷ [])) .standing) (single k) (wordsAfter (built st) before) (wordsAfter (built st) (before ++ (restore k ∷ [])))
 
 -- what serving a list leaves: the record and the answers are `ws` and `out` before, and `ws'` and `out'` after
 pub record ServedAs (n m : ℕ) (crew calls ws out : List ℕ) (r : Served) (ws' out' : List ℕ) : Type 0 where

@@ -2,12 +2,12 @@
 ghost use mathlib.Core.Path.{_≡_};
 ghost use Rattle.model.specs.Calls.{mine, edit, qualityOf, mayOf};
 ghost use Rattle.model.specs.Machine.Call.{strike, restore, eliminate, review};
-ghost use Rattle.quality.specs.Reading.{weightsOf};
+ghost use Rattle.quality.specs.Numbers.{weightsOf, toleranceOf};
 ghost use Rattle.text_crew.specs.Reader.{readResult, readCrew};
 ghost use Rattle.call_mine.specs.Answers.{mined};
 ghost use Rattle.call_strike.specs.Answers.{struck};
 ghost use Rattle.call_restore.specs.Answers.{restored};
-ghost use Rattle.call_eliminate.specs.Answers.{eliminateGiven, toleranceOf};
+ghost use Rattle.call_eliminate.specs.Answers.{eliminateGiven};
 ghost use Rattle.call_review.specs.Answers.{reviewGiven};
 ghost use Rattle.call_quality.specs.Answers.{qualityTold};
 ghost use Rattle.call_may.specs.Answers.{mayTold};

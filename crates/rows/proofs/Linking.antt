@@ -26,6 +26,7 @@ use Rattle.tables.specs.Tables.{Filled}
 use Rattle.tables.proofs.Parts.{setAt-part}
 use Rattle.tables.proofs.Stores.{stored-back}
 use Rattle.tables.proofs.Tables.{beside}
+use Rattle.hierarchy.specs.Tables.{immediateSeniors}
 use Rattle.rows.specs.Linked.{Turned, juniorsIn, Linked}
 
 -- ---- one role's juniors change
@@ -108,7 +109,7 @@ module _ (ρ : Roles) (R : ℕ) (few : candidateCount ρ ≤ 128) (b : R < 2 ^ c
 
   -- an entry holds the immediate seniors
   pub seniors-held : (seniors : List ℕ) (j x : ℕ) → Linked ws seniors → j < 128 → x ≡ setAt 2 seniors (2 * j) → x < 2 ^ 128
-      → x ≡ collect (candidateCount ρ) (λ i. has (immediateJuniors ρ R i) j)
+      → x ≡ immediateSeniors ρ R j
   seniors-held seniors j x l lj ex small =
       let told : (i : ℕ) → i < 128 → has x i ≡ has (immediateJuniors ρ R i) j =
       λ i li. ap (λ (z : ℕ). has z i) ex ∙ l .turned i j li lj ∙ ap (λ (z : ℕ). has z j) (held i li) in

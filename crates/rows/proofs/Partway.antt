@@ -11,7 +11,7 @@ use Rattle.sets.specs.Words.{word}
 use Rattle.sets.proofs.Truth.{either}
 use Rattle.sets.proofs.Items.{digit}
 use Rattle.sets.proofs.Words.{word-zero}
-use Rattle.model.specs.Hierarchy.{Roles, immediateJuniors, directPermissions, directMembers, building, RoleRows}
+use Rattle.model.specs.Hierarchy.{immediateJuniors, directPermissions, directMembers, building, RoleRows}
 use Rattle.model.specs.Record.{recordLength, crewStart, setsStart, permissionsStart, membersStart, juniorsStart, headerWord, wordAt, built}
 use Rattle.model.specs.State.{State, rolesOf, standingNow}
 use Rattle.model.proofs.Lists.{tabulate-is}
@@ -22,7 +22,7 @@ use Rattle.stores.specs.Stores.{putAt}
 use Rattle.tables.specs.Stores.{wordsOf}
 use Rattle.stores.proofs.Stores.{length-putAt, putAt-below, putAt-above}
 use Rattle.tables.proofs.Stores.{length-wordsOf, stored-word}
-use Rattle.rows.specs.Partway.{still, Headed, Partway, Begun}
+use Rattle.rows.specs.Partway.{still, Headed, Partway, Differ, Begun}
 use Rattle.rows.proofs.Regions.{still-all, still-done, still-other, still-none, region-stored, region-before, region-after}
 
 -- ---- one row
@@ -84,12 +84,6 @@ module _ (old : RoleRows) (st : State) (s p t k x : ℕ) (ws : List ℕ) (lk : k
       }
 
 -- ---- the start of a change: the standing set is stored
-
--- two buildings differ in immediate juniors and direct permissions at most for the roles of s, in direct members at most for those of t
-pub record Differ (ρ : Roles) (R S s t : ℕ) : Type 0 where
-  pub juniors : (i : ℕ) → (So (has s i) → ⊥) → immediateJuniors ρ R i ≡ immediateJuniors ρ S i
-  pub permissions : (i : ℕ) → (So (has s i) → ⊥) → directPermissions ρ R i ≡ directPermissions ρ S i
-  pub members : (i : ℕ) → (So (has t i) → ⊥) → directMembers ρ R i ≡ directMembers ρ S i
 
 pub marks : (st : State) (R j : ℕ) → j < 2 → headerWord (standingNow st R) (4 + j) ≡ word R j
 unfolding headerWord standingNow

@@ -7,7 +7,7 @@ use Prim.Native.Nat.{ℕ, _+_, _*_, _^_, _<_}
 use native.Mathlib.Nat.{lt-of-lt-of-le}
 use lib.ListN.{length, take, drop}
 use lib.Pow.{pow-mono}
-use Rattle.sets.specs.Sets.{has, _∖_, single, collect}
+use Rattle.sets.specs.Sets.{_∖_, single}
 use Rattle.sets.specs.Words.{word}
 use Rattle.model.specs.Lists.{setAt}
 use Rattle.model.specs.Hierarchy.{Roles, candidateCount, permissionSet, immediateJuniors, directPermissions, directMembers, RoleRows}
@@ -18,7 +18,7 @@ use Rattle.model.proofs.Record.{juniors-small}
 use Rattle.stores.specs.Stores.{putAt}
 use Rattle.tables.specs.Stores.{wordsOf}
 use Rattle.tables.specs.Tables.{Holds}
-use Rattle.hierarchy.specs.Tables.{Numbered, Narrow}
+use Rattle.hierarchy.specs.Tables.{Numbered, Narrow, immediateSeniors}
 use Rattle.indexes.specs.Index.{LowerRoles, RoleUsers}
 use Rattle.indexes.proofs.Sources.{numbered, narrow}
 use Rattle.rows.specs.Linked.{Turned, juniorsIn, Linked}
@@ -59,7 +59,7 @@ module _ (old : RoleRows) (st : State) (p t R : ℕ) (index ws : List ℕ) (to :
       ∙ ap (λ (S : ℕ). immediateJuniors ρ S i) (to .standing)
 
   pub lower-rewritten : (j is ms : ℕ) (seniors after : List ℕ) → j < 128 → is ≡ setAt 2 seniors (2 * j) → is < 2 ^ 128
-      → ((ρ : Roles) → Numbered ρ → Narrow ρ → RoleUsers ρ index → R < 2 ^ candidateCount ρ → is ≡ collect (candidateCount ρ) (λ i. has (immediateJuniors ρ R i) j) → ms ≡ directMembers ρ R j)
+      → ((ρ : Roles) → Numbered ρ → Narrow ρ → RoleUsers ρ index → R < 2 ^ candidateCount ρ → is ≡ immediateSeniors ρ R j → ms ≡ directMembers ρ R j)
       → after ≡ putAt ws (membersStart + 2 * j) (wordsOf 2 ms)
       → Linked ws seniors → Partway old st 0 p t ws → Partway old st 0 p (t ∖ single j) after
   lower-rewritten j is ms seniors after lj ei small members ea l q =

@@ -1,13 +1,14 @@
 -- A record on its way to the building of a state.
 -- Assumes nothing.
 use mathlib.Core.Path.{_≡_}
+use mathlib.Core.Bool.{So}
 use mathlib.Core.List.{List}
 use Prim.Native.Nat.{ℕ, _+_, _*_, _≤_, _<_}
 use lib.ListN.{length, getD}
 use Rattle.sets.specs.Truth.{if_then_else_}
 use Rattle.sets.specs.Sets.{has}
 use Rattle.sets.specs.Words.{word}
-use Rattle.model.specs.Hierarchy.{permissionSet, immediateJuniors, directPermissions, directMembers, RoleRows}
+use Rattle.model.specs.Hierarchy.{Roles, permissionSet, immediateJuniors, directPermissions, directMembers, RoleRows}
 use Rattle.model.specs.Record.{recordLength, crewStart, setsStart, permissionsStart, membersStart, juniorsStart, headerWord, Limits}
 use Rattle.model.specs.State.{State, rolesOf}
 use Rattle.indexes.specs.Index.{Indexed}
@@ -45,3 +46,9 @@ pub record Target (st : State) (R : ℕ) (index : List ℕ) : Type 0 where
   pub limits : Limits st
   pub standing : st .standing ≡ R
   pub indexed : Indexed (rolesOf st) index
+
+-- two buildings differ in immediate juniors and direct permissions at most for the roles of s, in direct members at most for those of t
+pub record Differ (ρ : Roles) (R S s t : ℕ) : Type 0 where
+  pub juniors : (i : ℕ) → (So (has s i) → ⊥) → immediateJuniors ρ R i ≡ immediateJuniors ρ S i
+  pub permissions : (i : ℕ) → (So (has s i) → ⊥) → directPermissions ρ R i ≡ directPermissions ρ S i
+  pub members : (i : ℕ) → (So (has t i) → ⊥) → directMembers ρ R i ≡ directMembers ρ S i

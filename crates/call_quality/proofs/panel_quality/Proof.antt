@@ -3,7 +3,7 @@
 use mathlib.Core.Path.{refl, sym, _∙_, ap}
 use borrow.Author.Tests.{not-true, not-false}
 use Rattle.model.specs.Quality.{weigh}
-use Rattle.quality.specs.Reading.{weightsOf}
+use Rattle.quality.specs.Numbers.{weightsOf}
 use Rattle.model.proofs.Sound.{sound-few, counts-read}
 use Rattle.call_quality.proofs.Quality.{quality-told, quality-1, quality-5, quality-9, quality-given}
 use borrow.Author.Needs.{needs}

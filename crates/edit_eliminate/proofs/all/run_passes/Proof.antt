@@ -8,9 +8,8 @@ use Rattle.sets.specs.Held.{set128}
 use Rattle.hierarchy.proofs.Sieving.{is-empty}
 use Rattle.sets.proofs.Truth.{So-not, eqb-iff}
 use Rattle.model.specs.Record.{recordLength}
-use Rattle.edit_trials.specs.Trying.{weightsIn}
+use Rattle.quality.specs.Numbers.{weightsIn, toleranceIn}
 use Rattle.edit_trials.proofs.Moving.{ready-few}
-use Rattle.edit_eliminate.specs.Passing.{toleranceIn}
 use Rattle.edit_eliminate.proofs.Taking.{searched-kin, ranked-kin}
 use Rattle.edit_eliminate.proofs.Running.{Running, strikables-found, running-start, running-empty, running-last, running-more, running-out}
 use Rattle.edit_eliminate.proofs.all.run_passes.Statement.{statement}

@@ -8,8 +8,7 @@ use lib.ListN.{length}
 use Rattle.sets.specs.Held.{set128}
 use Rattle.hierarchy.proofs.Sieving.{fewer, not-empty, is-empty}
 use Rattle.model.specs.Record.{recordLength}
-use Rattle.edit_trials.specs.Trying.{weightsIn}
-use Rattle.edit_eliminate.specs.Passing.{toleranceIn}
+use Rattle.quality.specs.Numbers.{weightsIn, toleranceIn}
 use Rattle.edit_eliminate.proofs.Taking.{Taking, taking-start, taking-bound, taking-more, taking-all, stand-few, searched-kin}
 use Rattle.edit_eliminate.proofs.pass.take_up_all.Statement.{statement}
 use Rattle.edit_eliminate.proofs.pass.take_up_all.Tie as tie

@@ -5,7 +5,7 @@ use mathlib.Core.Path.{_≡_, refl}
 use native.Mathlib.Omega.{arith}
 use lib.ListN.{length}
 use Rattle.model.specs.Record.{recordLength}
-use Rattle.edit_trials.specs.Trying.{weightsIn}
+use Rattle.quality.specs.Numbers.{weightsIn}
 use Rattle.edit_trials.proofs.Moving.{ready-few}
 use Rattle.edit_trials.proofs.Runs.{weights-in-allowed, ready-weighed, weighed}
 use Rattle.edit_review.proofs.Turns.{Running, running-start, running-last, running-more, running-out}

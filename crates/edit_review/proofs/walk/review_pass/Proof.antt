@@ -7,7 +7,7 @@ use Prim.Native.Nat.{_-_, _≤_}
 use native.Mathlib.Omega.{arith}
 use lib.ListN.{length, getD}
 use Rattle.model.specs.Record.{recordLength}
-use Rattle.edit_trials.specs.Trying.{weightsIn}
+use Rattle.quality.specs.Numbers.{weightsIn}
 use Rattle.edit_trials.proofs.Moving.{ready-few}
 use Rattle.edit_review.proofs.Turns.{Passing, passing-start, passing-more, passing-bound, passing-count}
 use Rattle.edit_review.proofs.walk.review_pass.Statement.{statement}

@@ -1,13 +1,9 @@
 -- The rows of k and of its neighbours are written anew.
 -- Assumes nothing.
 use borrow.Author.Needs.{needs}
-use Rattle.edit_rows.proofs.Partway.{changed}
 use Rattle.edit_rows.proofs.Changing.{taken-at}
 use Rattle.edit_rows.proofs.change.take_out_at.Statement.{statement}
 use Rattle.edit_rows.proofs.change.take_out_at.Tie as tie
-
-slice-read-c : tie.Need-slice-read-c
-slice-read-c c = search needs
 
 load128-requires : tie.Need-load128-requires
 load128-requires c κs = search needs
@@ -15,45 +11,42 @@ load128-requires c κs = search needs
 remove-requires : tie.Need-remove-requires
 remove-requires c κs = search needs
 
-heirs-requires : tie.Need-heirs-requires
-heirs-requires c κs = search needs
-
-store128-requires : tie.Need-store128-requires
-store128-requires c κs = search needs
+juniors-to-rewrite-requires : tie.Need-juniors-to-rewrite-requires
+juniors-to-rewrite-requires c κs = search needs
 
 insert-requires : tie.Need-insert-requires
 insert-requires c κs = search needs
 
-rewrite-uppers-requires : tie.Need-rewrite-uppers-requires
-rewrite-uppers-requires c κs = search needs
-
 insert-requires-2 : tie.Need-insert-requires-2
 insert-requires-2 c κs = search needs
 
-rewrite-lowers-requires : tie.Need-rewrite-lowers-requires
-rewrite-lowers-requires c κs = search needs
+change-standing-requires : tie.Need-change-standing-requires
+change-standing-requires c κs = search needs
 
 same-length : tie.Need-same-length
 same-length c = search needs
 
+same-length-2 : tie.Need-same-length-2
+same-length-2 c = search needs
+
 returns : tie.Need-returns
-returns c = λ st roles lim e ix.
-    taken-at st lim roles _ _ _ _ e ix _ (c .before .before .before .before .before .before .before .before .before .before .before .before .before .before .before .before .before .before .before .before .before .before .before .pre .3) _ _ _ _ _ _ _ (c .before .before .before .before .before .before .before .before .before .before .before .before .before .before .before .before .before .load128 .ensures) (c .before .before .before .before .before .before .before .before .before .before .before .before .before .before .before .before .remove .ensures) (c .before .before .before .before .before .before .before .before .insert .ensures) (c .before .before .before .before .before .before .before .before .before .before .before .before .before .before .heirs .ensures) (c .before .before .before .insert2 .ensures)
-    (λ st roles lim count b e ix d.
-    changed st _ _ _ _ _ _ roles _ _ _ _ lim count b e ix d (c .before .before .before .before .before .before .before .before .before .before .before .before .store128 .ensures) (c .before .before .before .before .before .before .before .rewrite-uppers .ensures) (c .before .before .rewrite-lowers .ensures))
+returns c st ready =
+    let change = c .before .before .before .before in
+    let lowers = change .before .before .before .before .before in
+    let left = lowers .before .before in
+    taken-at st _ _ _ _ _ ready _ (left .before .before .before .before .before .before .pre .1 .1 .1) _ _ _ _ _ _ _ (left .before .load128 .ensures) (left .remove .ensures)
+    (change .before .before .insert .ensures) (lowers .juniors-to-rewrite .ensures) (change .before .insert2 .ensures) (change .change-standing .ensures)
 
 pub take-out-at-spec : {M : Type 1} → statement M
 take-out-at-spec =
     tie.close
     (tie.spec
-    slice-read-c
     load128-requires
     remove-requires
-    heirs-requires
-    store128-requires
+    juniors-to-rewrite-requires
     insert-requires
-    rewrite-uppers-requires
     insert-requires-2
-    rewrite-lowers-requires
+    change-standing-requires
     same-length
+    same-length-2
     returns)

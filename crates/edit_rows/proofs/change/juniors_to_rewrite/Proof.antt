@@ -5,8 +5,8 @@ use mathlib.Core.Path.{sym, _∙_, ap}
 use Prim.Native.Nat.{ℕ}
 use lib.Dec.{eqb}
 use Rattle.sets.proofs.Truth.{if-true, if-false}
-use Rattle.edit_rows.proofs.change.heirs.Statement.{statement}
-use Rattle.edit_rows.proofs.change.heirs.Tie as tie
+use Rattle.edit_rows.proofs.change.juniors_to_rewrite.Statement.{statement}
+use Rattle.edit_rows.proofs.change.juniors_to_rewrite.Tie as tie
 
 mul-load128 : tie.Need-mul-load128
 mul-load128 c = search needs
@@ -24,13 +24,17 @@ empty-requires : tie.Need-empty-requires
 empty-requires c κs = search needs
 
 returns : tie.Need-returns
-returns c = c .empty .ensures ∙ sym (if-true _ _ _ (ap (λ (x : ℕ). eqb x 0) (sym (c .before .before .before .load128 .ensures)) ∙ sym (c .before .before .is-empty .ensures) ∙ c .before .if1 .taken))
+returns c =
+    let loaded = c .before .before .before in
+    c .empty .ensures
+    ∙ sym (if-true _ _ _ (ap (λ (x : ℕ). eqb x 0) (sym (loaded .load128 .ensures)) ∙ sym (c .before .before .is-empty .ensures) ∙ c .before .if1 .taken))
 
 returns-2 : tie.Need-returns-2
-returns-2 c = sym (if-false _ _ _ (ap (λ (x : ℕ). eqb x 0) (sym (c .before .before .load128 .ensures)) ∙ sym (c .before .is-empty .ensures) ∙ c .if1 .left))
+returns-2 c =
+    sym (if-false _ _ _ (ap (λ (x : ℕ). eqb x 0) (sym (c .before .before .load128 .ensures)) ∙ sym (c .before .is-empty .ensures) ∙ c .if1 .left))
 
-pub heirs-spec : {M : Type 1} → statement M
-heirs-spec =
+pub juniors-to-rewrite-spec : {M : Type 1} → statement M
+juniors-to-rewrite-spec =
     tie.close
     (tie.spec
     mul-load128
