@@ -16,13 +16,11 @@ use Rattle.model.specs.Lists.{setAt}
 use Rattle.model.specs.Hierarchy.{Roles, candidateCount, immediatelySenior, immediateJuniors, directPermissions, directMembers, building, RoleRows}
 use Rattle.model.specs.Record.{permissionsStart, membersStart, juniorsStart, built, Limits}
 use Rattle.model.specs.State.{State, rolesOf, standingNow}
-use Rattle.model.specs.Altered.{Altered}
 use Rattle.model.proofs.Reading.{Ordered, immediate-iff, junior-iff}
 use Rattle.model.proofs.Building.{stands-below, senior-stands}
 use Rattle.model.proofs.Changes.{restored-ordered, juniors-same, permissions-same, members-same, members-kept}
 use Rattle.model.proofs.Record.{read-count, read-standing}
 use Rattle.model.proofs.Steps.{limits-ordered, limits-now}
-use Rattle.model.proofs.Altered.{strike-altered, restore-altered}
 use Rattle.stores.specs.Stores.{putAt}
 use Rattle.tables.specs.Stores.{wordsOf}
 use Rattle.tables.proofs.Stores.{stored-after}
@@ -190,22 +188,3 @@ module _ (st : State) (lim : Limits st) (ws index : List ℕ) (e : ws ≡ built 
       → s ≡ f (rolesOf st) (st .standing ∪ single k) k
   put-found s f es =
       es (rolesOf st) (numbered st lim) (ix .lower-roles) put-below ∙ ap (λ (S : ℕ). f (rolesOf st) S k) (put-standing st lim ws e k small r R er eR)
-
--- ---- what follows of every change: only the words that the paper allows are altered
-
-pub taken-altered : (st : State) (k : ℕ) (before after : List ℕ) → Limits st → before ≡ built st → after ≡ built (standingNow st (st .standing ∖ single k))
-    → Altered (rolesOf st) (st .standing) (single k) before after
-taken-altered st k before after lim eb ea =
-    rw (eb, ea)
-    (strike-altered st k (limits-ordered st lim) lim (limits-now st (st .standing ∖ single k) lim (∖-lt (candidateCount (rolesOf st)) (st .standing) (single k) (lim .standing-below))))
-
-pub put-altered : (st : State) (k : ℕ) (before after : List ℕ) → Limits st → k < candidateCount (rolesOf st) → has (st .standing) k ≡ false
-    → before ≡ built st → after ≡ built (standingNow st (st .standing ∪ single k)) → Altered (rolesOf st) (st .standing ∪ single k) (single k) before after
-unfolding standingNow rolesOf
-put-altered st k before after lim lk absent eb ea =
-    let c = candidateCount (rolesOf st) in
-    let new = standingNow st (st .standing ∪ single k) in
-    let lim' : Limits new = limits-now st (st .standing ∪ single k) lim (∪-lt c (st .standing) (single k) (lim .standing-below) (single-lt c k lk)) in
-    let less : standingNow new (new .standing ∖ single k) ≡ st = ap (standingNow st) (with-without (st .standing) k absent) in
-    let a = restore-altered new k (limits-ordered new lim') lim' (rw less lim) in
-    rw (eb, ea) (rw less at a)
