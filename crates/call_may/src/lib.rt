@@ -1,9 +1,9 @@
 ghost use mathlib.Core.Path.{_≡_};
 ghost use Rattle.model.specs.Calls.{mayOf};
-ghost use Rattle.call_may.specs.Answers.{mayTold};
+ghost use Rattle.call_may.specs.Results.{mayResult};
 use access::may;
-use records::record_sound;
-use tables::LENGTH;
+use calls::enter_to_read;
+use calls::pair_refusal;
 
 // The refusal's number, or 0, and beside 0 whether the user may: 1 or 0.
 #[repr(C)]
@@ -20,19 +20,15 @@ fn refused(code: u64) -> MayAnswer
 
 // Whether user u may do what permission p is for, by the roles and links in the record.
 pub fn panel_may(rec: &[u64], u: u64, p: u64) -> MayAnswer
-    ensures { λ r. ⌜ mayTold r ≡ mayOf (now (rec .entry)) u p ⌝ }
+    ensures { λ r. ⌜ mayResult r ≡ mayOf (now (rec .entry)) u p ⌝ }
 {
-    if rec.len() != LENGTH {
-        return refused(1);
+    let code = enter_to_read(rec);
+    if code != 0 {
+        return refused(code);
     }
-    if !record_sound(rec) {
-        return refused(5);
-    }
-    if rec[0] <= u {
-        return refused(6);
-    }
-    if rec[1] <= p {
-        return refused(6);
+    let code = pair_refusal(rec[0], rec[1], u, p);
+    if code != 0 {
+        return refused(code);
     }
     if may(rec, u as usize, p as usize) {
         return MayAnswer {

@@ -1,1 +1,1 @@
-mod Quality
+pub mod Quality

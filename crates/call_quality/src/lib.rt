@@ -1,12 +1,12 @@
 ghost use mathlib.Core.Path.{_≡_};
 ghost use Rattle.model.specs.Calls.{qualityOf};
 ghost use Rattle.quality.specs.Numbers.{weightsOf};
-ghost use Rattle.call_quality.specs.Answers.{qualityTold};
+ghost use Rattle.call_quality.specs.Results.{qualityResult};
+use calls::enter_to_read;
+use calls::weights_refusal;
+use quality::Weights;
 use quality::count_rows;
 use quality::weigh;
-use quality::weights_allowed;
-use records::record_sound;
-use tables::LENGTH;
 
 // The refusal's number, or 0, and beside 0 the quality.
 #[repr(C)]
@@ -23,19 +23,24 @@ fn refused(code: u64) -> QualityAnswer
 
 // The quality of the record's roles for these weights: of the roles, direct members, direct permissions and links.
 pub fn panel_quality(rec: &[u64], w1: u64, w2: u64, w3: u64, w4: u64) -> QualityAnswer
-    ensures { λ r. ⌜ qualityTold r ≡ qualityOf (now (rec .entry)) (weightsOf w1 w2 w3 w4) ⌝ }
+    ensures { λ r. ⌜ qualityResult r ≡ qualityOf (now (rec .entry)) (weightsOf w1 w2 w3 w4) ⌝ }
 {
-    if rec.len() != LENGTH {
-        return refused(1);
+    let weights = Weights {
+        role: w1,
+        member: w2,
+        permission: w3,
+        link: w4,
+    };
+    let code = enter_to_read(rec);
+    if code != 0 {
+        return refused(code);
     }
-    if !record_sound(rec) {
-        return refused(5);
-    }
-    if !weights_allowed(w1, w2, w3, w4) {
-        return refused(9);
+    let code = weights_refusal(weights);
+    if code != 0 {
+        return refused(code);
     }
     QualityAnswer {
         code: 0,
-        quality: weigh(count_rows(rec), w1, w2, w3, w4),
+        quality: weigh(count_rows(rec), weights),
     }
 }

@@ -1,3 +1,1 @@
-pub mod Fitting
-pub mod Edits
 pub mod Telling

@@ -1,29 +1,27 @@
--- The calls that read: an answer of a number and a value.
+-- The calls that read: an answer of a number and a value, after two checks.
 -- Assumes nothing.
-use mathlib.Core.Path.{_≡_, sym, _∙_}
-use mathlib.Core.Bool.{So}
+use mathlib.Core.Path.{_≡_, sym, _∙_, ap}
 use mathlib.Core.Logic.{_≢_}
-use mathlib.Core.List.{List}
 use Prim.Native.Nat.{ℕ}
 use lib.Dec.{eqb}
-use Rattle.sets.specs.Truth.{isnt, if_then_else_}
-use Rattle.sets.proofs.Truth.{not-So, eqb-iff, if-true, if-false, if-passes, if-stops}
-use Rattle.model.specs.Record.{sound}
-use Rattle.model.specs.Calls.{unfit, told}
-use Rattle.model.proofs.Refusals.{unfit-iff}
+use Rattle.sets.proofs.Truth.{not-So, eqb-iff, if-true, if-false}
+use Rattle.model.specs.Refusals.{_orElse_}
+use Rattle.model.specs.Calls.{told}
+use Rattle.model.proofs.Refusals.{orElse-first, orElse-next}
 
-pub told-refused : (k code value : ℕ) → k ≢ 0 → code ≡ k → told code value ≡ record { code = k; value = 0 }
+refused : (code value : ℕ) → code ≢ 0 → record { code = code; value = 0 } ≡ told code value
 unfolding told
-told-refused k code value d e =
-    if-false (eqb code 0) _ _ (not-So (eqb code 0) (λ h. d (sym e ∙ eqb-iff code 0 .0 h))) ∙ (λ i. record { code = e i; value = 0 })
+refused code value d = sym (if-false (eqb code 0) _ _ (not-So (eqb code 0) (λ h. d (eqb-iff code 0 .0 h))))
 
-pub told-given : (code value : ℕ) → code ≡ 0 → told code value ≡ record { code = 0; value = value }
-unfolding told
-told-given code value e = if-true (eqb code 0) _ _ (eqb-iff code 0 .1 e)
+module _ (a b value : ℕ) where
+  -- the first check finds something, the second does, and neither does
+  pub told-first : (code : ℕ) → code ≡ a → code ≢ 0 → record { code = code; value = 0 } ≡ told (a orElse b) value
+  told-first code e d =
+      refused code value d ∙ ap (λ (k : ℕ). told k value) (e ∙ sym (orElse-first a b (λ z. d (e ∙ z))))
 
--- the number of a call whose record does not fit, and of one whose record does
-pub bad-record : (a k rest : ℕ) → k ≢ 0 → a ≡ k → (if isnt (eqb a 0) then a else rest) ≡ k
-bad-record a k rest d e = if-stops (eqb a 0) a rest (not-So (eqb a 0) (λ h. d (sym e ∙ eqb-iff a 0 .0 h))) ∙ e
+  pub told-second : a ≡ 0 → (code : ℕ) → code ≡ b → code ≢ 0 → record { code = code; value = 0 } ≡ told (a orElse b) value
+  told-second z code e d = refused code value d ∙ ap (λ (k : ℕ). told k value) (e ∙ sym (orElse-next a b z))
 
-pub good-record : (ws : List ℕ) (rest : ℕ) → So (sound ws) → (if isnt (eqb (unfit ws) 0) then unfit ws else rest) ≡ rest
-good-record ws rest h = if-passes (eqb (unfit ws) 0) (unfit ws) rest (eqb-iff (unfit ws) 0 .1 (unfit-iff ws .1 h))
+  pub told-value : a ≡ 0 → b ≡ 0 → record { code = 0; value = value } ≡ told (a orElse b) value
+  unfolding told
+  told-value za zb = sym (if-true (eqb (a orElse b) 0) _ _ (eqb-iff (a orElse b) 0 .1 (orElse-next a b za ∙ zb)))

@@ -1,1 +1,10 @@
-// What all calls on a record ask first, and how the answer of each is told: theorems in proofs/, and no code.
+// What the calls share: the entrance of those on a record, and checks of their numbers.
+mod entrance;
+mod numbers;
+
+pub use entrance::enter;
+pub use entrance::enter_to_read;
+pub use entrance::length_refusal;
+pub use entrance::soundness_refusal;
+pub use numbers::pair_refusal;
+pub use numbers::weights_refusal;

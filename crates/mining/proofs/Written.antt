@@ -46,10 +46,3 @@ module _ {t : List ℕ} {c : ℕ} {xs : List ℕ} (w : Written t c xs) where
 
   pub written-whole : t ≡ tabulate 512 (regionWord 4 (λ k. getD xs k 0))
   written-whole = tabulate-is 512 (regionWord 4 (λ k. getD xs k 0)) t (w .holds .frame .size) written-word
-
--- a list of zeros
-pub blank : (n i : ℕ) → _≡_ {A = ℕ} (getD (replicate n 0) i 0) 0
-blank n i =
-    let z : ℕ = 0 in
-    let e = length-replicate n z in
-    either i n (λ l. getD-replicate n i z z l) (λ l. List·getD-eq-default (replicate n z) z (omega arith))

@@ -8,7 +8,7 @@ use native.Mathlib.Nat.{add-zero, zero-add, not-suc-le-zero, le-of-suc-le-suc, l
 use native.Mathlib.Omega.{arith}
 use native.Mathlib.Numerals.{add-one}
 use lib.Dec.{ltb}
-use lib.ListN.{length, getD, set, take, drop, length-set, length-append, length-take, length-drop, List·getD-append}
+use lib.ListN.{length, getD, set, take, drop, length-set, length-append, length-take, length-drop, replicate, length-replicate, getD-replicate, List·getD-append, List·getD-eq-default}
 use lib.Seq.{ext-getD, take-suc, take-all, length-take-le, getD-take, getD-drop, getD-append-add, getD-set-same, getD-set-other}
 use borrow.Author.Tests.{ltb-true, ltb-false}
 use Rattle.stores.specs.Stores.{putAt}
@@ -138,3 +138,10 @@ part-stored l at vs n e h =
     (λ i b.
     let small : i < n = rw len at b in
     getD-take n (drop at (putAt l at vs)) i 0 small ∙ getD-drop at (putAt l at vs) i 0 ∙ putAt-in l at vs i (omega arith) (omega arith))
+
+-- a list of zeros
+pub blank : (n i : ℕ) → _≡_ {A = ℕ} (getD (replicate n 0) i 0) 0
+blank n i =
+    let z : ℕ = 0 in
+    let e = length-replicate n z in
+    either i n (λ l. getD-replicate n i z z l) (λ l. List·getD-eq-default (replicate n z) z (omega arith))

@@ -1,82 +1,75 @@
--- Each refusal by its own test; then what the links in the record give the user.
+-- The entrance, the numbers, and then what the links in the record give the user.
 -- Assumes nothing.
-use mathlib.Core.Path.{refl, sym, _∙_}
-use borrow.Author.Tests.{not-true, not-false}
-use Rattle.model.proofs.Sound.{sound-few}
-use Rattle.call_may.proofs.Rights.{may-told, bit-yes, bit-no, may-1, may-5, may-6-user, may-6-permission, may-given}
 use borrow.Author.Needs.{needs}
+use mathlib.Core.Path.{_≡_, refl, sym, _∙_}
+use native.Mathlib.Omega.{arith}
+use lib.ListN.{getD}
+use Rattle.model.specs.Calls.{unfit}
+use Rattle.model.specs.Refusals.{pairRefusal}
+use Rattle.model.proofs.Record.{sound-iff}
+use Rattle.model.proofs.Refusals.{unfit-iff}
+use Rattle.model.proofs.Sound.{sound-few}
+use Rattle.call_may.proofs.Rights.{bit-yes, bit-no, may-unfit, may-refused, may-given}
 use Rattle.call_may.proofs.panel_may.Statement.{statement}
 use Rattle.call_may.proofs.panel_may.Tie as tie
+
+fit : (c : tie.Else1) → unfit (c .before .before .before .args .rec .now) ≡ 0
+fit c = sym (c .before .enter-to-read .ensures) ∙ c .if1 .left
+
+known : (c : tie.Else2) → pairRefusal (getD (c .before .before .before .before .before .before .before .args .rec .now) 0 0) (getD (c .before .before .before .before .before .before .before .args .rec .now) 1 0) (c .before .before .before .before .before .before .before .args .u) (c .before .before .before .before .before .before .before .args .p) ≡ 0
+known c = sym (c .before .pair-refusal .ensures) ∙ c .if2 .left
+
+enter-to-read-requires : tie.Need-enter-to-read-requires
+enter-to-read-requires c κs = search needs
 
 refused-requires : tie.Need-refused-requires
 refused-requires c κs = search needs
 
 returns : tie.Need-returns
-returns c =
-    may-told _ _ _ _ (c .refused .ensures) (may-1 (c .before .before .before .args .rec .now) (c .before .before .before .args .u) (c .before .before .before .args .p) (c .before .if1 .taken))
+returns c = may-unfit _ _ _ _ _ (c .refused .ensures) (c .before .if1 .taken) (c .before .before .enter-to-read .ensures)
 
-record-sound-requires : tie.Need-record-sound-requires
-record-sound-requires c κs = search needs
+shared-slice-read-pair-refusal : tie.Need-shared-slice-read-pair-refusal
+shared-slice-read-pair-refusal c = let size = sound-iff _ .0 (unfit-iff _ .0 (fit (c .before))) .0 in omega arith
+
+shared-slice-read-pair-refusal-2 : tie.Need-shared-slice-read-pair-refusal-2
+shared-slice-read-pair-refusal-2 c = let size = sound-iff _ .0 (unfit-iff _ .0 (fit (c .before .before))) .0 in omega arith
+
+pair-refusal-requires : tie.Need-pair-refusal-requires
+pair-refusal-requires c κs = search needs
 
 refused-requires-2 : tie.Need-refused-requires-2
 refused-requires-2 c κs = search needs
 
 returns-2 : tie.Need-returns-2
-returns-2 c =
-    may-told _ _ _ _ (c .refused2 .ensures)
-    (may-5 (c .before .before .before .before .before .args .rec .now) (c .before .before .before .before .before .args .u) (c .before .before .before .before .before .args .p) (c .before .before .before .if1 .left) (sym (c .before .before .record-sound .ensures) ∙ not-true _ (c .before .if2 .taken)))
-
-shared-slice-read-if3 : tie.Need-shared-slice-read-if3
-shared-slice-read-if3 c = search needs
-
-refused-requires-3 : tie.Need-refused-requires-3
-refused-requires-3 c κs = search needs
-
-returns-3 : tie.Need-returns-3
-returns-3 c =
-    may-told _ _ _ _ (c .refused3 .ensures) (may-6-user (c .before .before .before .before .before .before .before .args .rec .now) (c .before .before .before .before .before .before .before .args .u) (c .before .before .before .before .before .before .before .args .p) (sym (c .before .before .before .before .record-sound .ensures) ∙ not-false _ (c .before .before .before .if2 .left)) (c .before .if3 .taken))
-
-shared-slice-read-if4 : tie.Need-shared-slice-read-if4
-shared-slice-read-if4 c = search needs
-
-refused-requires-4 : tie.Need-refused-requires-4
-refused-requires-4 c κs = search needs
-
-returns-4 : tie.Need-returns-4
-returns-4 c =
-    may-told _ _ _ _ (c .refused4 .ensures) (may-6-permission (c .before .before .before .before .before .before .before .before .before .args .rec .now) (c .before .before .before .before .before .before .before .before .before .args .u) (c .before .before .before .before .before .before .before .before .before .args .p) (sym (c .before .before .before .before .before .before .record-sound .ensures) ∙ not-false _ (c .before .before .before .before .before .if2 .left)) (c .before .if4 .taken))
+returns-2 c = may-refused _ _ _ _ _ (c .refused2 .ensures) (c .before .if2 .taken) (fit (c .before .before .before .before .before)) (c .before .before .pair-refusal .ensures)
 
 may-requires : tie.Need-may-requires
 may-requires c κs =
-    (c .before .before .before .before .before .before .if1 .left, sound-few (c .before .before .before .before .before .before .before .before .args .rec .now) (sym (c .before .before .before .before .before .record-sound .ensures) ∙ not-false _ (c .before .before .before .before .if2 .left)))
+    let h = unfit-iff _ .0 (fit (c .before .before .before .before)) in
+    (sound-iff _ .0 h .0, sound-few _ h)
 
-returns-5 : tie.Need-returns-5
-returns-5 c =
-    let h = (sym (c .before .before .before .before .before .before .before .record-sound .ensures) ∙ not-false _ (c .before .before .before .before .before .before .if2 .left)) in
-    may-told _ 0 1 _ (refl, refl)
-    (may-given (c .before .before .before .before .before .before .before .before .before .before .args .rec .now) (c .before .before .before .before .before .before .before .before .before .before .args .u) (c .before .before .before .before .before .before .before .before .before .before .args .p) h 1 (search needs) (search needs) (bit-yes _ _ (c .if5 .taken) (c .before .may .ensures h)))
+returns-3 : tie.Need-returns-3
+returns-3 c =
+    let z = fit (c .before .before .before .before .before .before) in
+    may-given _ _ _ _ z (known (c .before .before)) refl (bit-yes _ _ (c .if3 .taken) (c .before .may .ensures (unfit-iff _ .0 z)))
 
-returns-6 : tie.Need-returns-6
-returns-6 c =
-    let h = (sym (c .before .before .before .before .before .before .before .record-sound .ensures) ∙ not-false _ (c .before .before .before .before .before .before .if2 .left)) in
-    may-told _ 0 0 _ (refl, refl)
-    (may-given (c .before .before .before .before .before .before .before .before .before .before .args .rec .now) (c .before .before .before .before .before .before .before .before .before .before .args .u) (c .before .before .before .before .before .before .before .before .before .before .args .p) h 0 (search needs) (search needs) (bit-no _ _ (c .if5 .left) (c .before .may .ensures h)))
+returns-4 : tie.Need-returns-4
+returns-4 c =
+    let z = fit (c .before .before .before .before .before .before) in
+    may-given _ _ _ _ z (known (c .before .before)) refl (bit-no _ _ (c .if3 .left) (c .before .may .ensures (unfit-iff _ .0 z)))
 
 pub panel-may-spec : {M : Type 1} → statement M
 panel-may-spec =
     tie.close
     (tie.spec
+    enter-to-read-requires
     refused-requires
     returns
-    record-sound-requires
+    shared-slice-read-pair-refusal
+    shared-slice-read-pair-refusal-2
+    pair-refusal-requires
     refused-requires-2
     returns-2
-    shared-slice-read-if3
-    refused-requires-3
-    returns-3
-    shared-slice-read-if4
-    refused-requires-4
-    returns-4
     may-requires
-    returns-5
-    returns-6)
+    returns-3
+    returns-4)

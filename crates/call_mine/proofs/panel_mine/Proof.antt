@@ -9,7 +9,7 @@ use borrow.Author.Tests.{not-true, not-false}
 use Rattle.model.specs.Candidates.{Growing}
 use Rattle.model.proofs.Candidates.{candidates-growing}
 use Rattle.mining.specs.Mining.{Mines}
-use Rattle.mining.proofs.Written.{blank}
+use Rattle.stores.proofs.Stores.{blank}
 use Rattle.call_mine.proofs.Mining.{refused, code-1, code-2, few-users, few-permissions, code-3, size, code-4, accepted, tabled}
 use Rattle.call_mine.proofs.panel_mine.Statement.{statement}
 use Rattle.call_mine.proofs.panel_mine.Tie as tie

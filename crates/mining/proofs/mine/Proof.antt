@@ -6,7 +6,7 @@ use borrow.Author.Needs.{needs}
 use Rattle.model.specs.Lists.{rowsAt}
 use Rattle.mining.specs.Mining.{Seen}
 use Rattle.mining.proofs.Persons.{Mining, mining-none, mining-table, mining-all, mining-more, mining-full}
-use Rattle.mining.proofs.Written.{blank}
+use Rattle.stores.proofs.Stores.{blank}
 use Rattle.mining.proofs.Seeing.{seen-none}
 use Rattle.mining.proofs.Walking.{seen-held}
 use Rattle.mining.proofs.mine.Statement.{statement}

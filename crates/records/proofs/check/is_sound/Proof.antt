@@ -9,7 +9,7 @@ use native.Mathlib.Omega.{arith}
 use lib.ListN.{length, getD}
 use Rattle.sets.proofs.Truth.{So-not}
 use Rattle.model.specs.Record.{recordLength, stateOf}
-use Rattle.mining.proofs.Written.{blank}
+use Rattle.stores.proofs.Stores.{blank}
 use Rattle.records.specs.Records.{MinesInto}
 use Rattle.records.proofs.Judging.{limited, unlimited, limited-users, too-many, too-high, counted, limits}
 use Rattle.records.proofs.check.is_sound.Statement.{statement}

@@ -1,7 +1,7 @@
 -- The same answer.
 -- Assumes nothing.
 use borrow.Author.Needs.{needs}
-use Rattle.mining.proofs.Written.{blank}
+use Rattle.stores.proofs.Stores.{blank}
 use Rattle.records.proofs.check.record_sound.Statement.{statement}
 use Rattle.records.proofs.check.record_sound.Tie as tie
 

@@ -7,8 +7,7 @@ use Prim.Native.Nat.{ℕ}
 use native.Mathlib.Omega.{arith}
 use Rattle.model.specs.Lists.{rowsAt}
 use Rattle.model.specs.State.{fresh}
-use Rattle.stores.proofs.Stores.{putAt-whole}
-use Rattle.mining.proofs.Written.{blank}
+use Rattle.stores.proofs.Stores.{putAt-whole, blank}
 use Rattle.rows.specs.Partway.{Begun}
 use Rattle.records.proofs.Beginning.{built-headed, headed-fills}
 use Rattle.records.proofs.Judging.{fresh-few, fresh-candidates, fresh-described}

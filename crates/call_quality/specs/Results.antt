@@ -3,5 +3,5 @@
 use Rattle.model.specs.Calls.{Told}
 use Rattle.call_quality.specs.declared.QualityAnswer.{QualityAnswer}
 
-unfoldable pub qualityTold : QualityAnswer → Told
-qualityTold r = record { code = r .code; value = r .quality }
+unfoldable pub qualityResult : QualityAnswer → Told
+qualityResult r = record { code = r .code; value = r .quality }

@@ -3,5 +3,5 @@
 use Rattle.model.specs.Calls.{Told}
 use Rattle.call_may.specs.declared.MayAnswer.{MayAnswer}
 
-unfoldable pub mayTold : MayAnswer → Told
-mayTold r = record { code = r .code; value = r .allowed }
+unfoldable pub mayResult : MayAnswer → Told
+mayResult r = record { code = r .code; value = r .allowed }
