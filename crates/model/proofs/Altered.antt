@@ -4,14 +4,13 @@ use mathlib.Core.Path.{_≡_, refl, sym, _∙_, ap}
 use mathlib.Core.Bool.{Bool, So}
 use mathlib.Core.Logic.{_↔_, _≢_, _⊎_, ⊎-elim}
 use mathlib.Core.List.{List}
-use Prim.Native.Nat.{ℕ, zero, suc, _+_, _*_, _<_}
+use Prim.Native.Nat.{ℕ, zero, suc, _+_, _*_, _≤_, _<_}
 use native.Mathlib.Nat.{lt-irrefl}
 use native.Mathlib.Omega.{arith}
-use lib.Dec.{leb, ltb}
 use Rattle.sets.specs.Truth.{_and_, _or_, any}
 use Rattle.sets.specs.Sets.{has, _∖_}
 use Rattle.sets.specs.Words.{word}
-use Rattle.sets.proofs.Truth.{same-test, and-iff, or-iff, any-iff, leb-iff, ltb-iff, either}
+use Rattle.sets.proofs.Truth.{same-test, and-iff, or-iff, any-iff, either, reflect}
 use Rattle.sets.proofs.Order.{∖-iff, ∖-lt}
 use Rattle.model.specs.Hierarchy.{Roles, candidateCount, immediatelySenior, immediateJuniors, directPermissions, directMembers}
 use Rattle.model.specs.State.{State, rolesOf, standingNow}
@@ -25,28 +24,28 @@ use Rattle.model.proofs.Record.{by-region, word-head, word-crew, word-s
 
 inside-of : (w at j : ℕ) → j < w → So (inside w at (at + j))
 unfolding inside
-inside-of w at j h = and-iff (leb at (at + j)) (ltb (at + j) (at + w)) .1 (leb-iff at (at + j) .1 (omega arith), ltb-iff (at + j) (at + w) .1 (omega arith))
+inside-of w at j h =
+    let a : at ≤ at + j = omega arith in
+    let b : at + j < at + w = omega arith in
+    simp reflect (a, b)
 
-pub row-permissions : (r j : ℕ) → j < 4 → So (rowWord r (permissionsStart + 4 * r + j))
+-- word i of a row is one of its three entries
+in-row : (r i : ℕ) → So (inside 4 (permissionsStart + 4 * r) i) ⊎ (So (inside 2 (membersStart + 2 * r) i) ⊎ So (inside 2 (juniorsStart + 2 * r) i)) → So (rowWord r i)
 unfolding rowWord
-row-permissions r j h =
-    let i = permissionsStart + 4 * r + j in
-    or-iff (inside 4 (permissionsStart + 4 * r) i or inside 2 (membersStart + 2 * r) i) (inside 2 (juniorsStart + 2 * r) i) .1
-    (_⊎_.inl (or-iff (inside 4 (permissionsStart + 4 * r) i) (inside 2 (membersStart + 2 * r) i) .1 (_⊎_.inl (inside-of 4 (permissionsStart + 4 * r) j h))))
+in-row r i h =
+    let a = inside 4 (permissionsStart + 4 * r) i in
+    let b = inside 2 (membersStart + 2 * r) i in
+    or-iff (a or b) (inside 2 (juniorsStart + 2 * r) i) .1
+    (⊎-elim (λ x. _⊎_.inl (or-iff a b .1 (_⊎_.inl x))) (⊎-elim (λ x. _⊎_.inl (or-iff a b .1 (_⊎_.inr x))) (λ x. _⊎_.inr x)) h)
 
-pub row-members : (r j : ℕ) → j < 2 → So (rowWord r (membersStart + 2 * r + j))
-unfolding rowWord
-row-members r j h =
-    let i = membersStart + 2 * r + j in
-    or-iff (inside 4 (permissionsStart + 4 * r) i or inside 2 (membersStart + 2 * r) i) (inside 2 (juniorsStart + 2 * r) i) .1
-    (_⊎_.inl (or-iff (inside 4 (permissionsStart + 4 * r) i) (inside 2 (membersStart + 2 * r) i) .1 (_⊎_.inr (inside-of 2 (membersStart + 2 * r) j h))))
+row-permissions : (r j : ℕ) → j < 4 → So (rowWord r (permissionsStart + 4 * r + j))
+row-permissions r j h = in-row r (permissionsStart + 4 * r + j) (_⊎_.inl (inside-of 4 (permissionsStart + 4 * r) j h))
 
-pub row-juniors : (r j : ℕ) → j < 2 → So (rowWord r (juniorsStart + 2 * r + j))
-unfolding rowWord
-row-juniors r j h =
-    let i = juniorsStart + 2 * r + j in
-    or-iff (inside 4 (permissionsStart + 4 * r) i or inside 2 (membersStart + 2 * r) i) (inside 2 (juniorsStart + 2 * r) i) .1
-    (_⊎_.inr (inside-of 2 (juniorsStart + 2 * r) j h))
+row-members : (r j : ℕ) → j < 2 → So (rowWord r (membersStart + 2 * r + j))
+row-members r j h = in-row r (membersStart + 2 * r + j) (_⊎_.inr (_⊎_.inl (inside-of 2 (membersStart + 2 * r) j h)))
+
+row-juniors : (r j : ℕ) → j < 2 → So (rowWord r (juniorsStart + 2 * r + j))
+row-juniors r j h = in-row r (juniorsStart + 2 * r + j) (_⊎_.inr (_⊎_.inr (inside-of 2 (juniorsStart + 2 * r) j h)))
 
 pub concerned-iff : (ρ : Roles) (R s r : ℕ)
     → So (concerned ρ R s r)

@@ -8,7 +8,7 @@ use Prim.Native.Nat.{ℕ, zero, suc, _+_, _<_, _^_}
 use native.Mathlib.Nat.{lt-irrefl}
 use native.Mathlib.Omega.{arith}
 use lib.Count.{ones}
-use Rattle.sets.specs.Truth.{_and_, none}
+use Rattle.sets.specs.Truth.{_and_}
 use Rattle.sets.specs.Sets.{has, _∩_, _∖_, single}
 use Rattle.sets.proofs.Truth.{by-test, So-not, and-iff, find, equal-or, reflect}
 use Rattle.sets.proofs.Items.{same-set, has-zero, empty-of}

@@ -13,18 +13,22 @@ use Rattle.sets.specs.Sets.{_∪_, _∖_, single, collect}
 use Rattle.sets.proofs.Truth.{by-test, So-not, not-So, eqb-iff, if-true, if-false}
 use Rattle.sets.proofs.Items.{has-zero}
 use Rattle.sets.proofs.Order.{subset-refl, ∖-lt, ∪-lt, single-lt, collect-lt, collect-iff}
+use Rattle.model.specs.Lists.{rowsAt}
 use Rattle.model.specs.Candidates.{candidates}
 use Rattle.model.specs.Hierarchy.{Roles, candidateCount, permissionSet}
 use Rattle.model.specs.Coverage.{grant, allCovered}
 use Rattle.model.specs.Quality.{Weights, Tolerance}
-use Rattle.model.specs.State.{State, rolesOf, standingNow, fresh}
+use Rattle.model.specs.State.{State, mostUsers, mostPermissions, mostCandidates, rolesOf, standingNow, fresh}
 use Rattle.model.specs.Machine.{Call, Outcome, reply, refusal, accepted, step, stateAfter, eliminated, reviewed}
 use Rattle.model.specs.Machine.Call.{strike, restore, eliminate, review}
 use Rattle.model.proofs.Candidates.{proper-lower, row-candidate}
 use Rattle.model.proofs.Reading.{Ordered, user-iff, covers-iff, covered-iff, allCovered-iff, strikable-stands}
 use Rattle.model.proofs.Spared.{struck-covered, restored-covered}
 use Rattle.model.specs.Record.{Limits}
-use Rattle.model.proofs.Refusals.{strike-iff, restore-iff}
+use Rattle.model.specs.Calls.{miningRefusal}
+use Rattle.model.proofs.Refusals.{mining-iff, strike-iff, restore-iff}
+use Rattle.model.proofs.Lists.{length-rowsAt}
+use Rattle.model.proofs.Record.{withinLimits-iff, rowsWithin-iff}
 use Rattle.model.proofs.Elimination.{Strikes, eliminated-going}
 use Rattle.model.proofs.Review.{Restores, reviewed-going}
 
@@ -254,8 +258,8 @@ fresh-covered n m rows e =
     ))
 
 -- within the limits, with all candidates standing, each grant is covered: by the role that is the user's own row
-pub fresh-fit : (n m : ℕ) (rows : List ℕ) → 1 ≤ n → n ≤ 128 → 1 ≤ m → m ≤ 256 → length rows ≡ n
-    → ((u : ℕ) → u < n → getD rows u 0 < 2 ^ m) → length (candidates rows) ≤ 128 → Fit (fresh n m rows)
+pub fresh-fit : (n m : ℕ) (rows : List ℕ) → 1 ≤ n → n ≤ mostUsers → 1 ≤ m → m ≤ mostPermissions → length rows ≡ n
+    → ((u : ℕ) → u < n → getD rows u 0 < 2 ^ m) → length (candidates rows) ≤ mostCandidates → Fit (fresh n m rows)
 unfolding fresh rolesOf candidateCount
 fresh-fit n m rows n1 n128 m1 m256 e b few =
     record {
@@ -272,3 +276,12 @@ fresh-fit n m rows n1 n128 m1 m256 e b few =
           };
       covers-all = fresh-covered n m rows e;
     }
+
+-- a crew list that mining accepts gives such a state
+pub mining-fit : (n m : ℕ) (crew ws : List ℕ) → miningRefusal n m crew ws ≡ 0 → Fit (fresh n m (rowsAt n crew 0))
+mining-fit n m crew ws e =
+    let rows = rowsAt n crew 0 in
+    let a = mining-iff n m crew ws .0 e in
+    let k = withinLimits-iff n m .0 (a .1) in
+    fresh-fit n m rows (k .0) (k .1) (k .2) (k .3) (length-rowsAt n crew 0)
+    (λ u l. rowsWithin-iff m rows .0 (a .2 .1) u (rw (length-rowsAt n crew 0) l)) (a .3)
