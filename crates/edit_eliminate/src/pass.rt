@@ -6,7 +6,7 @@ ghost use lib.Count.{ones};
 ghost use lib.ListN.{length};
 ghost use Rattle.sets.specs.Held.{set128};
 ghost use Rattle.model.specs.Coverage.{strikables};
-ghost use Rattle.model.specs.Machine.{takeUpAll, pass};
+ghost use Rattle.model.specs.Machine.{takeUp, takeUpAll, pass};
 ghost use Rattle.model.specs.Quality.{weightsAllowed, toleranceAllowed};
 ghost use Rattle.model.specs.Record.{recordLength, stateOf};
 ghost use Rattle.model.specs.State.{rolesOf};

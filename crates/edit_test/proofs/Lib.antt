@@ -1,2 +1,4 @@
 pub mod Walking
-pub mod Sparing
+pub mod Covering
+pub mod Holding
+pub mod Removing

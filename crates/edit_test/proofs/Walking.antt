@@ -9,7 +9,7 @@ use Rattle.sets.specs.Sets.{has, _∖_, single}
 use Rattle.sets.proofs.Truth.{same-test, So-not, not-So, implies-iff, all-iff, equal-or}
 use Rattle.sets.proofs.Items.{has-zero}
 use Rattle.sets.proofs.Order.{∖-iff, single-iff}
-use Rattle.edit_test.specs.Sparing.{each}
+use Rattle.edit_test.specs.Covering.{each}
 
 pub each-iff : (n s : ℕ) (f : ℕ → Bool) → So (each n s f) ↔ ((i : ℕ) → i < n → So (has s i) → So (f i))
 unfolding each

@@ -1,1 +1,1 @@
-pub mod Sparing
+pub mod Covering

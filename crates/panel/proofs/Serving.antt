@@ -10,7 +10,7 @@ use lib.Dec.{eqb, leb, ltb}
 use lib.ListN.{length, getD, set, take, length-set}
 use lib.Seq.{take-all, take-suc-set}
 use Rattle.sets.specs.Truth.{_and_, isnt, if_then_else_, all}
-use Rattle.sets.specs.Sets.{has}
+use Rattle.sets.specs.Sets.{has, single}
 use Rattle.sets.proofs.Truth.{by-test, So-not, not-So, and-iff, isnt-iff, all-iff, eqb-iff, leb-iff, ltb-iff, all-more, if-true, if-false, if-cases}
 use Rattle.model.specs.Lists.{rowsAt}
 use Rattle.model.specs.Candidates.{candidates}

@@ -8,7 +8,7 @@ use Prim.Native.Nat.{ℕ, zero, suc, _+_, _*_, _/_, _<_}
 use lib.Dec.{eqb, ltb}
 use lib.ListN.{length, getD}
 use Rattle.sets.specs.Truth.{_and_, if_then_else_, all}
-use Rattle.sets.specs.Sets.{has}
+use Rattle.sets.specs.Sets.{has, single}
 use Rattle.model.specs.Lists.{rowsAt}
 use Rattle.model.specs.Candidates.{candidates}
 use Rattle.model.specs.Chains.{link, Chain, Authorised, linksBut}

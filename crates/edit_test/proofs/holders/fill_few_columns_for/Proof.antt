@@ -12,13 +12,12 @@ use Rattle.sets.proofs.Written.{words, held128}
 use Rattle.model.specs.Lists.{setAt}
 use Rattle.hierarchy.proofs.Sieving.{fewer, not-empty, is-empty}
 use Rattle.tables.proofs.Tables.{HeldBut, held-start, held-more}
-use Rattle.edit_test.proofs.Sparing.{held-all}
-use Rattle.edit_test.proofs.holders.fill_few_holders.Statement.{statement}
-use Rattle.edit_test.proofs.holders.fill_few_holders.Tie as tie
+use Rattle.edit_test.proofs.Holding.{held-all}
+use Rattle.edit_test.proofs.holders.fill_few_columns_for.Statement.{statement}
+use Rattle.edit_test.proofs.holders.fill_few_columns_for.Tie as tie
 
 abbrev Inv-loop : tie.InvT-loop
-Inv-loop table c out₀ rest₀ out rest =
-    (length out ≡ 512) × HeldBut (set256 rest₀) (set256 rest) (λ p. collect c (λ k. has (setAt 4 table (4 * k)) p)) out
+Inv-loop table c out₀ rest₀ out rest = (length out ≡ 512) × HeldBut (set256 rest₀) (set256 rest) (λ p. collect c (λ k. has (setAt 4 table (4 * k)) p)) out
 
 abbrev μ-loop : tie.MeasureT-loop
 μ-loop table c out₀ rest₀ out rest = ones (set256 rest)
@@ -45,13 +44,22 @@ remove-requires : tie.Need-remove-requires Inv-loop μ-loop
 remove-requires c κs = search needs
 
 loop-less : tie.Need-loop-less Inv-loop μ-loop
-loop-less c = rw (c .remove .ensures) (fewer _ _ (c .before .before .before .before .before .before .lowest-permission .ensures .0))
+loop-less c =
+    let column = c .before .before .before .before in
+    rw (c .remove .ensures) (fewer _ _ (column .before .before .lowest-permission .ensures .0))
+
+small : (c : tie.After-column-of Inv-loop μ-loop) → set128 (c .column-of .result) < 2 ^ 128
+small c = search (words, held128)
 
 loop-again : tie.Need-loop-again Inv-loop μ-loop
 loop-again c =
-    let small : set128 (c .before .before .before .before .column-of .result) < 2 ^ 128 = search (words, held128) in
-    let l = c .before .before .before .before .before .before .lowest-permission .ensures .1 in
-    (omega arith, rw (c .remove .ensures, c .before .before .before .store128 .ensures) (held-more _ _ _ _ _ _ (c .before .before .before .before .before .before .before .before .before .loop .inv .1) (omega arith) small (c .before .before .before .before .column-of .ensures)))
+    let column = c .before .before .before .before in
+    let lowest = column .before .before in
+    let l = lowest .lowest-permission .ensures .1 in (
+      omega arith,
+      rw (c .remove .ensures, c .before .before .before .store128 .ensures)
+          (held-more _ _ _ _ _ _ (lowest .before .before .before .loop .inv .1) (omega arith) (small column) (column .column-of .ensures)),
+    )
 
 same-length : tie.Need-same-length Inv-loop μ-loop
 same-length c = omega arith
@@ -59,8 +67,8 @@ same-length c = omega arith
 returns : tie.Need-returns Inv-loop μ-loop
 returns c = held-all _ _ _ _ (c .before .before .loop .inv .1) (is-empty _ _ (c .before .is-empty .ensures) (c .if1 .left))
 
-pub fill-few-holders-spec : {M : Type 1} → statement M
-fill-few-holders-spec =
+pub fill-few-columns-for-spec : {M : Type 1} → statement M
+fill-few-columns-for-spec =
     tie.close
     (tie.spec
     Inv-loop
