@@ -1,1 +1,1 @@
-mod Striking
+
