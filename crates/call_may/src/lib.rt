@@ -22,9 +22,9 @@ fn refused(code: u64) -> MayAnswer
 pub fn panel_may(rec: &[u64], u: u64, p: u64) -> MayAnswer
     ensures { λ r. ⌜ mayResult r ≡ mayOf (now (rec .entry)) u p ⌝ }
 {
-    let code = enter_to_read(rec);
-    if code != 0 {
-        return refused(code);
+    let unfit = enter_to_read(rec);
+    if unfit != 0 {
+        return refused(unfit);
     }
     let code = pair_refusal(rec[0], rec[1], u, p);
     if code != 0 {

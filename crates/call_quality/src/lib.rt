@@ -31,9 +31,9 @@ pub fn panel_quality(rec: &[u64], w1: u64, w2: u64, w3: u64, w4: u64) -> Quality
         permission: w3,
         link: w4,
     };
-    let code = enter_to_read(rec);
-    if code != 0 {
-        return refused(code);
+    let unfit = enter_to_read(rec);
+    if unfit != 0 {
+        return refused(unfit);
     }
     let code = weights_refusal(weights);
     if code != 0 {

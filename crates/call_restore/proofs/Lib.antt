@@ -1,1 +1,1 @@
-mod Restoring
+pub mod Restoring

@@ -7,5 +7,5 @@ use Rattle.model.specs.Calls.{Edited}
 use Rattle.call_strike.specs.declared.StrikeAnswer.{StrikeAnswer}
 
 -- no number stands beside that of a refusal
-unfoldable pub afterStrike : StrikeAnswer → List ℕ → Edited
-afterStrike r ws = record { replied = reply (r .code) 0 0; words = ws }
+unfoldable pub strikeResult : StrikeAnswer → List ℕ → Edited
+strikeResult r ws = record { replied = reply (r .code) 0 0; words = ws }

@@ -52,9 +52,9 @@ pub fn panel_strike(rec: &mut [u64], k: u64) -> StrikeAnswer
 {
     let mut index = [0u64; INDEX_LENGTH];
     let mut seniors = [0u64; 256];
-    let code = enter(rec, &mut index, &mut seniors);
-    if code != 0 {
-        return StrikeAnswer { code };
+    let unfit = enter(rec, &mut index, &mut seniors);
+    if unfit != 0 {
+        return StrikeAnswer { code: unfit };
     }
     let code = strike_refusal(rec, &mut index, k);
     if code != 0 {

@@ -14,9 +14,9 @@ use Rattle.model.specs.Lists.{setAt}
 use Rattle.model.specs.Hierarchy.{candidateCount}
 use Rattle.model.specs.Machine.{Call, Run, reply, refusal, accepted}
 use Rattle.model.specs.State.{rolesOf, standingNow}
-use Rattle.model.specs.Record.{recordLength, built, stateOf}
+use Rattle.model.specs.Record.{recordLength, built, stateOf, Limits}
 use Rattle.model.specs.Calls.{Edited, unfit, edit}
-use Rattle.model.proofs.Record.{sound-iff, sound-built}
+use Rattle.model.proofs.Record.{sound-iff, sound-built, read-count}
 use Rattle.model.proofs.Refusals.{unfit-iff}
 use Rattle.model.proofs.Sound.{sound-count, sound-few}
 use Rattle.model.proofs.Steps.{step-accepted, step-refused}
@@ -70,6 +70,10 @@ module _ (ws : List ℕ) (z : unfit ws ≡ 0) where
   -- a role below c is small enough for a set
   pub fit-number : (k : ℕ) → k < candidateCount (rolesOf (stateOf ws)) → k < 128
   fit-number k l = lt-of-lt-of-le (rw (sym fit-count) at l) fit-few
+
+-- word 2 is c, of any record that is built from its own state
+pub role-count : (ws : List ℕ) → Limits (stateOf ws) → ws ≡ built (stateOf ws) → getD ws 2 0 ≡ candidateCount (rolesOf (stateOf ws))
+role-count ws lim e = ap (λ (l : List ℕ). getD l 2 0) e ∙ read-count (stateOf ws) lim
 
 -- words 4 and 5 are the standing set
 pub standing-word : (ws : List ℕ) (R k : ℕ) → R ≡ setAt 2 ws 4 → has R k ≡ has (stateOf ws .standing) k

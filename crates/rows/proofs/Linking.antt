@@ -27,7 +27,9 @@ use Rattle.tables.proofs.Parts.{setAt-part}
 use Rattle.tables.proofs.Stores.{stored-back}
 use Rattle.tables.proofs.Tables.{beside}
 use Rattle.hierarchy.specs.Tables.{immediateSeniors}
-use Rattle.rows.specs.Linked.{Turned, juniorsIn, Linked}
+use Rattle.model.specs.State.{State, rolesOf}
+use Rattle.indexes.specs.Index.{Indexed}
+use Rattle.rows.specs.Linked.{Ready, Turned, juniorsIn, Linked}
 
 -- ---- one role's juniors change
 
@@ -136,3 +138,7 @@ module _ (ρ : Roles) (R : ℕ) (few : candidateCount ρ ≤ 128) (b : R < 2 ^ c
         let empty : setAt 2 seniors (2 * j) ≡ 0 =
         setAt-words 2 0 seniors (2 * j) (pow-pos 128) (λ b lb. filled .1 (2 * j + b) (omega arith) ∙ zero (2 * j + b) ∙ sym (word-zero b)) in
         ap (λ (x : ℕ). has x i) empty ∙ has-zero i ∙ sym (ap (λ (x : ℕ). has x j) (held i li) ∙ has-above c (immediateJuniors ρ R i) j (size i) a))
+
+-- another index of the same roles serves as well
+pub reindexed : (st : State) (ws index index' seniors : List ℕ) → Ready st ws index seniors → Indexed (rolesOf st) index' → Ready st ws index' seniors
+reindexed st ws index index' seniors h ix = record { limits = h .limits; afresh = h .afresh; indexed = ix; linked = h .linked }

@@ -1,59 +1,54 @@
--- Each refusal by its own test, and then the record with the role.
+-- The entrance, the machine's own checks, and then the record with the role.
 -- Assumes nothing.
 use borrow.Author.Needs.{needs}
-use mathlib.Core.Path.{refl, sym, _∙_}
-use native.Mathlib.Omega.{arith}
-use borrow.Author.Tests.{not-true, not-false}
-use Rattle.calls.proofs.Edits.{roles-few, edit-1, edit-5}
-use Rattle.call_restore.proofs.Restoring.{restore-told, restore-6, restore-7, restore-0}
+use mathlib.Core.Path.{_≡_, refl, sym, _∙_}
+use Rattle.model.specs.Machine.{refusal}
+use Rattle.model.specs.Machine.Call.{restore}
+use Rattle.model.specs.Record.{stateOf}
+use Rattle.model.specs.Calls.{unfit}
+use Rattle.model.proofs.Refusals.{restore-iff}
+use Rattle.stores.proofs.Stores.{blank}
+use Rattle.rows.specs.Linked.{Ready}
+use Rattle.calls_edit.proofs.Edits.{edit-unfit, edit-refused, fit-length, fit-few, fit-number}
+use Rattle.call_restore.proofs.Restoring.{restored, refused}
 use Rattle.call_restore.proofs.panel_restore.Statement.{statement}
 use Rattle.call_restore.proofs.panel_restore.Tie as tie
 
-returns : tie.Need-returns
-returns c = restore-told _ _ 1 _ refl (edit-1 _ _ (c .if1 .taken))
+fit : (c : tie.Else1) → unfit (c .before .before .before .before .before .before .before .before .args .rec .now) ≡ 0
+fit c = sym (c .before .before .before .enter .ensures .number) ∙ c .if1 .left
 
-slice-aggregate-is-sound : tie.Need-slice-aggregate-is-sound
-slice-aggregate-is-sound c = search needs
+-- what the entrance filled
+entered : (c : tie.Else1) → Ready (stateOf (c .before .before .before .before .before .before .before .before .args .rec .now)) (c .before .before .before .before .before .before .before .before .args .rec .now) (c .before .before .before .enter .last .1 .0) (c .before .before .before .enter .last .1 .1 .0)
+entered c = c .before .before .before .enter .ensures .ready (c .if1 .left)
 
-slice-aggregate-is-sound-2 : tie.Need-slice-aggregate-is-sound-2
-slice-aggregate-is-sound-2 c = search needs
+passed : (c : tie.Else2) → refusal (stateOf (c .before .before .before .before .before .before .before .before .before .before .before .args .rec .now)) (restore (c .before .before .before .before .before .before .before .before .before .before .before .args .k)) ≡ 0
+passed c = sym (c .before .restore-refusal .ensures _ _ (entered (c .before .before .before))) ∙ c .if2 .left
 
-slice-aggregate-is-sound-3 : tie.Need-slice-aggregate-is-sound-3
-slice-aggregate-is-sound-3 c = search needs
+slice-aggregate-enter : tie.Need-slice-aggregate-enter
+slice-aggregate-enter c = search needs
 
-is-sound-requires : tie.Need-is-sound-requires
-is-sound-requires c κs = search needs
+slice-aggregate-enter-2 : tie.Need-slice-aggregate-enter-2
+slice-aggregate-enter-2 c = search needs
+
+enter-requires : tie.Need-enter-requires
+enter-requires c κs = (search needs, (search needs, blank 256))
 
 same-length : tie.Need-same-length
 same-length c = search needs
 
-returns-2 : tie.Need-returns-2
-returns-2 c =
-    restore-told _ _ 5 _ refl (edit-5 _ _ (c .before .before .before .before .before .before .before .before .before .if1 .left) (sym (c .before .before .before .before .is-sound .ensures .0) ∙ not-true _ (c .if2 .taken)))
+returns : tie.Need-returns
+returns c = refused _ _ _ _ refl (edit-unfit _ _ _ (c .if1 .taken) (c .before .before .before .enter .ensures .number))
 
-slice-read-if3 : tie.Need-slice-read-if3
-slice-read-if3 c = search needs
+restore-refusal-requires : tie.Need-restore-refusal-requires
+restore-refusal-requires c κs =
+    let z = fit (c .before) in
+    (fit-length _ z, fit-few _ z)
 
 same-length-2 : tie.Need-same-length-2
 same-length-2 c = search needs
 
-returns-3 : tie.Need-returns-3
-returns-3 c =
-    restore-told _ _ 6 _ refl (restore-6 _ (sym (c .before .before .before .before .before .before .is-sound .ensures .0) ∙ not-false _ (c .before .before .if2 .left)) _ (c .if3 .taken))
-
-load128-requires : tie.Need-load128-requires
-load128-requires c κs = search needs
-
-contains-requires : tie.Need-contains-requires
-contains-requires c κs = search needs
-
-same-length-3 : tie.Need-same-length-3
-same-length-3 c = search needs
-
-returns-4 : tie.Need-returns-4
-returns-4 c =
-    restore-told _ _ 7 _ refl
-    (restore-7 _ (sym (c .before .before .before .before .before .before .before .before .before .before .is-sound .ensures .0) ∙ not-false _ (c .before .before .before .before .before .before .if2 .left)) _ _ _ (c .before .before .load128 .ensures) (c .before .contains .ensures) (omega arith) (c .if4 .taken))
+returns-2 : tie.Need-returns-2
+returns-2 c = refused _ _ _ _ refl (edit-refused _ _ (fit (c .before .before .before)) _ (c .if2 .taken) (c .before .restore-refusal .ensures _ _ (entered (c .before .before .before))))
 
 slice-aggregate-put-back : tie.Need-slice-aggregate-put-back
 slice-aggregate-put-back c = search needs
@@ -63,38 +58,32 @@ slice-aggregate-put-back-2 c = search needs
 
 put-back-requires : tie.Need-put-back-requires
 put-back-requires c κs =
-    let l = roles-few _ (sym (c .before .before .before .before .before .before .before .before .before .before .before .before .before .is-sound .ensures .0) ∙ not-false _ (c .before .before .before .before .before .before .before .before .before .if2 .left)) in
-    (c .before .before .before .before .before .before .before .before .before .before .before .before .before .before .before .before .before .before .if1 .left, search needs, search needs, omega arith, l)
+    let z = fit (c .before .before .before .before .before .before) in
+    (fit-length _ z, (search needs, (search needs, fit-number _ z _ (restore-iff _ _ .0 (passed (c .before .before .before)) .0))))
 
-same-length-4 : tie.Need-same-length-4
-same-length-4 c = search needs
+same-length-3 : tie.Need-same-length-3
+same-length-3 c = search needs
 
-returns-5 : tie.Need-returns-5
-returns-5 c =
-    let h = sym (c .before .before .before .before .before .before .before .before .before .before .before .before .before .before .before .before .is-sound .ensures .0) ∙ not-false _ (c .before .before .before .before .before .before .before .before .before .before .before .before .if2 .left) in
-    restore-told _ _ 0 _ refl
-    (restore-0 _ h _ _ _ (c .before .before .before .before .before .before .before .before .load128 .ensures) (c .before .before .before .before .before .before .before .contains .ensures) (omega arith) (c .before .before .before .before .before .before .if4 .left) _ _ _ _ (c .before .before .before .before .before .before .before .before .before .before .before .before .before .before .before .before .is-sound .ensures .1 h) (c .before .before .put-back .ensures))
+returns-3 : tie.Need-returns-3
+returns-3 c =
+    let e = passed (c .before .before .before .before .before .before .before) in
+    let known = restore-iff _ _ .0 e in
+    restored _ _ _ _ _ _ (fit (c .before .before .before .before .before .before .before .before .before .before)) e refl (c .before .before .before .put-back .ensures _ (entered (c .before .before .before .before .before .before .before .before .before .before)) (known .0) (known .1))
 
 pub panel-restore-spec : {M : Type 1} → statement M
 panel-restore-spec =
     tie.close
     (tie.spec
-    returns
-    slice-aggregate-is-sound
-    slice-aggregate-is-sound-2
-    slice-aggregate-is-sound-3
-    is-sound-requires
+    slice-aggregate-enter
+    slice-aggregate-enter-2
+    enter-requires
     same-length
-    returns-2
-    slice-read-if3
+    returns
+    restore-refusal-requires
     same-length-2
-    returns-3
-    load128-requires
-    contains-requires
-    same-length-3
-    returns-4
+    returns-2
     slice-aggregate-put-back
     slice-aggregate-put-back-2
     put-back-requires
-    same-length-4
-    returns-5)
+    same-length-3
+    returns-3)

@@ -7,5 +7,5 @@ use Rattle.model.specs.Calls.{Edited}
 use Rattle.call_restore.specs.declared.RestoreAnswer.{RestoreAnswer}
 
 -- no number stands beside that of a refusal
-unfoldable pub afterRestore : RestoreAnswer → List ℕ → Edited
-afterRestore r ws = record { replied = reply (r .code) 0 0; words = ws }
+unfoldable pub restoreResult : RestoreAnswer → List ℕ → Edited
+restoreResult r ws = record { replied = reply (r .code) 0 0; words = ws }
