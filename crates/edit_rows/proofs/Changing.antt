@@ -7,14 +7,14 @@ use mathlib.Core.List.{List}
 use Prim.Native.Nat.{ℕ, _+_, _*_, _^_, _≤_, _<_}
 use native.Mathlib.Omega.{arith}
 use lib.Dec.{eqb, ltb}
-use lib.ListN.{getD}
+use lib.ListN.{getD, take, drop}
 use Rattle.sets.specs.Truth.{if_then_else_}
 use Rattle.sets.specs.Sets.{has, _∪_, _∖_, single}
 use Rattle.sets.proofs.Truth.{by-test, eqb-iff, ltb-iff, if-true, if-false}
 use Rattle.sets.proofs.Order.{collect-iff, ∪-iff, single-iff, single-lt, has-with, with-without, ∪-lt, ∖-lt}
 use Rattle.model.specs.Lists.{setAt}
-use Rattle.model.specs.Hierarchy.{Roles, Rows, candidateCount, immediatelySenior, immediateJuniors, directPermissions, directMembers, building}
-use Rattle.model.specs.Record.{permissionsStart, membersStart, juniorsStart, built, Limits}
+use Rattle.model.specs.Hierarchy.{Roles, Rows, candidateCount, permissionSet, immediatelySenior, immediateJuniors, directPermissions, directMembers, building}
+use Rattle.model.specs.Record.{setsStart, permissionsStart, membersStart, juniorsStart, built, Limits}
 use Rattle.model.specs.State.{State, rolesOf, standingNow}
 use Rattle.model.specs.Altered.{Altered}
 use Rattle.model.proofs.Reading.{Ordered, immediate-iff, junior-iff}
@@ -25,11 +25,12 @@ use Rattle.model.proofs.Steps.{limits-ordered, limits-now}
 use Rattle.model.proofs.Altered.{strike-altered, restore-altered}
 use Rattle.stores.specs.Stores.{putAt}
 use Rattle.tables.specs.Stores.{wordsOf}
+use Rattle.tables.specs.Tables.{Holds}
 use Rattle.tables.proofs.Stores.{stored-after}
 use Rattle.hierarchy.specs.Tables.{Numbered, immediateSeniors}
-use Rattle.hierarchy.proofs.Reading.{read-permissions-of, read-members-of, read-juniors-of}
+use Rattle.hierarchy.proofs.Reading.{read-sets, read-permissions-of, read-members-of, read-juniors-of}
 use Rattle.indexes.specs.Index.{LowerRoles, Indexed}
-use Rattle.indexes.proofs.Sources.{numbered}
+use Rattle.indexes.proofs.Sources.{numbered, narrow}
 use Rattle.rows.specs.Linked.{Linked, Ready}
 use Rattle.rows.specs.Partway.{Partway, Differ, Target}
 use Rattle.rows.proofs.Linking.{linked-same, seniors-held}
@@ -102,6 +103,9 @@ module _ (st : State) (lim : Limits st) (ws : List ℕ) (e : ws ≡ built st) wh
 
   pub standing-read : setAt 2 ws 4 ≡ st .standing
   standing-read = ap (λ (l : List ℕ). setAt 2 l 4) e ∙ read-standing st lim
+
+  pub sets-read : Holds 4 (candidateCount (rolesOf st)) (permissionSet (rolesOf st)) (take 512 (drop setsStart ws))
+  sets-read = rw e (read-sets st lim (narrow st lim))
 
   module _ (k : ℕ) (small : k < 128) where
     pub permissions-read : setAt 4 ws (permissionsStart + 4 * k) ≡ directPermissions (rolesOf st) (st .standing) k
