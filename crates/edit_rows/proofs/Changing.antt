@@ -7,27 +7,30 @@ use mathlib.Core.List.{List}
 use Prim.Native.Nat.{ℕ, _+_, _*_, _^_, _≤_, _<_}
 use native.Mathlib.Omega.{arith}
 use lib.Dec.{eqb, ltb}
-use lib.ListN.{getD}
+use lib.ListN.{getD, take, drop}
 use Rattle.sets.specs.Truth.{if_then_else_}
 use Rattle.sets.specs.Sets.{has, _∪_, _∖_, single}
 use Rattle.sets.proofs.Truth.{by-test, eqb-iff, ltb-iff, if-true, if-false}
 use Rattle.sets.proofs.Order.{collect-iff, ∪-iff, single-iff, single-lt, has-with, with-without, ∪-lt, ∖-lt}
 use Rattle.model.specs.Lists.{setAt}
-use Rattle.model.specs.Hierarchy.{Roles, candidateCount, immediatelySenior, immediateJuniors, directPermissions, directMembers, building, RoleRows}
-use Rattle.model.specs.Record.{permissionsStart, membersStart, juniorsStart, built, Limits}
+use Rattle.model.specs.Hierarchy.{Roles, Rows, candidateCount, permissionSet, immediatelySenior, immediateJuniors, directPermissions, directMembers, building}
+use Rattle.model.specs.Record.{setsStart, permissionsStart, membersStart, juniorsStart, built, Limits}
 use Rattle.model.specs.State.{State, rolesOf, standingNow}
+use Rattle.model.specs.Altered.{Altered}
 use Rattle.model.proofs.Reading.{Ordered, immediate-iff, junior-iff}
 use Rattle.model.proofs.Building.{stands-below, senior-stands}
 use Rattle.model.proofs.Changes.{restored-ordered, juniors-same, permissions-same, members-same, members-kept}
 use Rattle.model.proofs.Record.{read-count, read-standing}
 use Rattle.model.proofs.Steps.{limits-ordered, limits-now}
+use Rattle.model.proofs.Altered.{strike-altered, restore-altered}
 use Rattle.stores.specs.Stores.{putAt}
 use Rattle.tables.specs.Stores.{wordsOf}
+use Rattle.tables.specs.Tables.{Holds}
 use Rattle.tables.proofs.Stores.{stored-after}
 use Rattle.hierarchy.specs.Tables.{Numbered, immediateSeniors}
-use Rattle.hierarchy.proofs.Reading.{read-permissions-of, read-members-of, read-juniors-of}
+use Rattle.hierarchy.proofs.Reading.{read-sets, read-permissions-of, read-members-of, read-juniors-of}
 use Rattle.indexes.specs.Index.{LowerRoles, Indexed}
-use Rattle.indexes.proofs.Sources.{numbered}
+use Rattle.indexes.proofs.Sources.{numbered, narrow}
 use Rattle.rows.specs.Linked.{Linked, Ready}
 use Rattle.rows.specs.Partway.{Partway, Differ, Target}
 use Rattle.rows.proofs.Linking.{linked-same, seniors-held}
@@ -101,6 +104,9 @@ module _ (st : State) (lim : Limits st) (ws : List ℕ) (e : ws ≡ built st) wh
   pub standing-read : setAt 2 ws 4 ≡ st .standing
   standing-read = ap (λ (l : List ℕ). setAt 2 l 4) e ∙ read-standing st lim
 
+  pub sets-read : Holds 4 (candidateCount (rolesOf st)) (permissionSet (rolesOf st)) (take 512 (drop setsStart ws))
+  sets-read = rw e (read-sets st lim (narrow st lim))
+
   module _ (k : ℕ) (small : k < 128) where
     pub permissions-read : setAt 4 ws (permissionsStart + 4 * k) ≡ directPermissions (rolesOf st) (st .standing) k
     permissions-read = ap (λ (l : List ℕ). setAt 4 l (permissionsStart + 4 * k)) e ∙ read-permissions-of st lim k small
@@ -131,8 +137,8 @@ Changed ws index seniors after seniors' R x y =
     → Ready (standingNow st R) after index seniors'
 
 pub changed : (R x y : ℕ) (ws index seniors first second seniors' third : List ℕ) → first ≡ putAt ws 4 (wordsOf 2 R)
-    → ((old : RoleRows) (st : State) (t : ℕ) → Target st R index → Partway old st x x t first → Linked first seniors → Partway old st 0 0 t second × Linked second seniors')
-    → ((old : RoleRows) (st : State) (p : ℕ) → Target st R index → Linked second seniors' → Partway old st 0 p y second → Partway old st 0 p 0 third × Linked third seniors')
+    → ((old : Rows) (st : State) (t : ℕ) → Target st R index → Partway old st x x t first → Linked first seniors → Partway old st 0 0 t second × Linked second seniors')
+    → ((old : Rows) (st : State) (p : ℕ) → Target st R index → Linked second seniors' → Partway old st 0 p y second → Partway old st 0 p 0 third × Linked third seniors')
     → Changed ws index seniors third seniors' R x y
 unfolding standingNow rolesOf
 changed R x y ws index seniors first second seniors' third ef uppers lowers st r b d =

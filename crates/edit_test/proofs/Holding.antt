@@ -3,10 +3,8 @@
 use mathlib.Core.Path.{_≡_, sym, _∙_, ap}
 use mathlib.Core.List.{List, _++_}
 use Prim.Native.Nat.{ℕ, _+_, _*_, _^_, _≤_, _<_}
-use native.Mathlib.Nat.{lt-of-lt-of-le}
 use native.Mathlib.Omega.{arith}
 use lib.ListN.{length, getD, take, drop, length-take, length-drop}
-use lib.Pow.{pow-mono}
 use lib.Seq.{ext-getD, getD-take, getD-drop}
 use Rattle.sets.specs.Sets.{has, collect}
 use Rattle.sets.proofs.Truth.{So-not}
@@ -18,12 +16,13 @@ use Rattle.model.specs.Indexes.{rolesOfPermission}
 use Rattle.model.specs.Record.{setsStart, built, Limits}
 use Rattle.model.specs.State.{State, rolesOf}
 use Rattle.model.proofs.Lists.{setAt-same}
-use Rattle.model.proofs.Record.{read-count, read-set}
+use Rattle.model.proofs.Record.{read-count}
 use Rattle.stores.specs.Stores.{putAt}
 use Rattle.stores.proofs.Stores.{length-putAt, putAt-below, putAt-in, part-back}
 use Rattle.tables.specs.Tables.{Holds}
 use Rattle.tables.proofs.Parts.{setAt-part}
 use Rattle.tables.proofs.Tables.{HeldBut}
+use Rattle.hierarchy.proofs.Reading.{read-sets}
 use Rattle.indexes.specs.Index.{indexLength, lowerStart, rolesStart, usersStart, holdersStart, Indexed, HoldersFor}
 use Rattle.indexes.proofs.Sources.{narrow}
 use Rattle.edit_test.specs.Covering.{HoldsFor}
@@ -34,11 +33,7 @@ held-all s rest f ws inv e p h = inv p h (λ t. So-not (has-zero p) (rw e at t))
 
 -- the sets of a record, as a table
 pub sets-read : (st : State) → Limits st → (ws : List ℕ) → ws ≡ built st → Holds 4 (candidateCount (rolesOf st)) (permissionSet (rolesOf st)) (take 512 (drop setsStart ws))
-sets-read st lim ws e k l =
-    let w = narrow st lim in
-    let few = lim .candidates-most in
-    setAt-part 4 setsStart 512 ws (4 * k) (omega arith) ∙ ap (λ (x : List ℕ). setAt 4 x (setsStart + 4 * k)) e
-    ∙ read-set st lim k (omega arith) (lt-of-lt-of-le (w .inside k l) (pow-mono (w .fewPermissions)))
+sets-read st lim ws e = rw e (read-sets st lim (narrow st lim))
 
 -- the places of a table of the roles' sets that hold p are the roles that hold p
 pub holders-are : (ρ : Roles) (c p : ℕ) (table : List ℕ) → candidateCount ρ ≡ c → Holds 4 (candidateCount ρ) (permissionSet ρ) table

@@ -17,9 +17,10 @@ use Rattle.model.proofs.Reading.{Ordered, immediate-iff, junior-iff}
 use Rattle.model.proofs.Building.{stands-below, senior-lower, absent-juniors, absent-permissions, absent-members}
 use Rattle.model.proofs.Changes.{struck-absent, juniors-same, permissions-same, members-same}
 use Rattle.model.proofs.Restoring.{links-counted, permissions-counted, members-counted}
-use Rattle.quality.specs.declared.counts.Counts.{Counts}
-use Rattle.quality.specs.Numbers.{countsIn}
-use Rattle.edit_trials.specs.Trying.{over, gainedBy, Within}
+use Rattle.hierarchy.specs.Tables.{immediateSeniors}
+use Rattle.quality.specs.declared.quality.Counts.{Counts}
+use Rattle.quality.specs.Reading.{countsOf}
+use Rattle.edit_trials.specs.Trying.{over, roleCounts, countedIn, Within, Corrected}
 use Rattle.edit_trials.proofs.Sums.{came-losing, came-linked, over-within}
 
 -- what a count is, from what it was, what goes and what comes
@@ -61,16 +62,16 @@ module _ (ρ : Roles) (S : ℕ) (o : Ordered ρ S) (k : ℕ) (here : So (has S k
   out-below = not-So (has (immediateJuniors ρ S k) k) (λ h. not-own (junior-iff ρ S k k .0 h .1))
 
   pub links-sum : total (candidateCount ρ) (λ i. ones (immediateJuniors ρ S i))
-      + over (candidateCount ρ) (collect (candidateCount ρ) (λ i. has (immediateJuniors ρ S i) k)) (λ i. ones (immediateJuniors ρ (S ∖ single k) i ∩ immediateJuniors ρ S k))
+      + over (candidateCount ρ) (immediateSeniors ρ S k) (λ i. ones (immediateJuniors ρ (S ∖ single k) i ∩ immediateJuniors ρ S k))
       ≡ total (candidateCount ρ) (λ i. ones (immediateJuniors ρ (S ∖ single k) i))
-      + (ones (immediateJuniors ρ S k) + ones (collect (candidateCount ρ) (λ i. has (immediateJuniors ρ S i) k)))
+      + (ones (immediateJuniors ρ S k) + ones (immediateSeniors ρ S k))
   links-sum =
       came-linked c seniors k (ones (immediateJuniors ρ S k)) (λ i. ones (immediateJuniors ρ (S ∖ single k) i)) (λ i. ones (immediateJuniors ρ S i))
       (λ i. ones (immediateJuniors ρ (S ∖ single k) i ∩ immediateJuniors ρ S k)) below out-above (ap ones (absent-juniors ρ (S ∖ single k) k gone) ∙ ones-zero) refl
       (λ i l d h. ap ones (sym (juniors-same ρ S o k i d (no-senior i l h)))) (collect-lt c upper) (λ i l h. links-counted ρ S o k here i (is-senior i h))
 
   pub permissions-sum : total (candidateCount ρ) (λ i. ones (directPermissions ρ S i))
-      + over (candidateCount ρ) (collect (candidateCount ρ) (λ i. has (immediateJuniors ρ S i) k)) (λ i. ones (directPermissions ρ (S ∖ single k) i ∩ permissionSet ρ k))
+      + over (candidateCount ρ) (immediateSeniors ρ S k) (λ i. ones (directPermissions ρ (S ∖ single k) i ∩ permissionSet ρ k))
       ≡ total (candidateCount ρ) (λ i. ones (directPermissions ρ (S ∖ single k) i)) + ones (directPermissions ρ S k)
   permissions-sum =
       came-losing c seniors k (ones (directPermissions ρ S k)) (λ i. ones (directPermissions ρ (S ∖ single k) i)) (λ i. ones (directPermissions ρ S i))
@@ -97,29 +98,29 @@ takenFrom ρ S k =
       roles = 0;
       members = over (candidateCount ρ) (immediateJuniors ρ S k) (λ j. ones (directMembers ρ (S ∖ single k) j ∩ authorisedUsers ρ k));
       permissions =
-          over (candidateCount ρ) (collect (candidateCount ρ) (λ i. has (immediateJuniors ρ S i) k))
+          over (candidateCount ρ) (immediateSeniors ρ S k)
           (λ i. ones (directPermissions ρ (S ∖ single k) i ∩ permissionSet ρ k));
       links =
-          over (candidateCount ρ) (collect (candidateCount ρ) (λ i. has (immediateJuniors ρ S i) k))
+          over (candidateCount ρ) (immediateSeniors ρ S k)
           (λ i. ones (immediateJuniors ρ (S ∖ single k) i ∩ immediateJuniors ρ S k));
     }
 
-module _ (ρ : Roles) (S k : ℕ) (q a : Counts) (eq : countsIn q ≡ model.counts ρ (S ∖ single k)) (ea : countsIn a ≡ takenFrom ρ S k) where
+module _ (ρ : Roles) (S k : ℕ) (q a : Counts) (eq : countsOf q ≡ model.counts ρ (S ∖ single k)) (ea : countsOf a ≡ takenFrom ρ S k) where
   -- the counts with k
-  pub came : Ordered ρ S → So (has S k) → (b r : Counts) → countsIn b ≡ gainedBy ρ S k
-      → (r .roles + a .roles ≡ q .roles + b .roles) × (r .members + a .members ≡ q .members + b .members) × (r .permissions + a .permissions ≡ q .permissions + b .permissions) × (r .links + a .links ≡ q .links + b .links)
-      → countsIn r ≡ model.counts ρ S
-  unfolding countsIn model.counts model.counted building takenFrom gainedBy
+  pub came : Ordered ρ S → So (has S k) → (b r : Counts) → countsOf b ≡ countedIn ρ S k
+      → Corrected q a b r
+      → countsOf r ≡ model.counts ρ S
+  unfolding countsOf model.counts model.counted building takenFrom countedIn roleCounts
   came o here b r eb h =
-      let roles = solve (r .roles) (a .roles) (q .roles) (b .roles) (ones S) 0 (ones (S ∖ single k)) 1 (h .0) (ap (λ (x : model.Counts). x .roles) ea) (ap (λ (x : model.Counts). x .roles) eq) (ap (λ (x : model.Counts). x .roles) eb) (let e = roles-sum ρ S o k here in omega arith) in
-      let members = solve (r .members) (a .members) (q .members) (b .members) _ _ _ _ (h .1) (ap (λ (x : model.Counts). x .members) ea) (ap (λ (x : model.Counts). x .members) eq) (ap (λ (x : model.Counts). x .members) eb) (members-sum ρ S o k here) in
-      let permissions = solve (r .permissions) (a .permissions) (q .permissions) (b .permissions) _ _ _ _ (h .2) (ap (λ (x : model.Counts). x .permissions) ea) (ap (λ (x : model.Counts). x .permissions) eq) (ap (λ (x : model.Counts). x .permissions) eb) (permissions-sum ρ S o k here) in
-      let links = solve (r .links) (a .links) (q .links) (b .links) _ _ _ _ (h .3) (ap (λ (x : model.Counts). x .links) ea) (ap (λ (x : model.Counts). x .links) eq) (ap (λ (x : model.Counts). x .links) eb) (links-sum ρ S o k here) in
+      let roles = solve (r .roles) (a .roles) (q .roles) (b .roles) (ones S) 0 (ones (S ∖ single k)) 1 (h .roles) (ap (λ (x : model.Counts). x .roles) ea) (ap (λ (x : model.Counts). x .roles) eq) (ap (λ (x : model.Counts). x .roles) eb) (let e = roles-sum ρ S o k here in omega arith) in
+      let members = solve (r .members) (a .members) (q .members) (b .members) _ _ _ _ (h .members) (ap (λ (x : model.Counts). x .members) ea) (ap (λ (x : model.Counts). x .members) eq) (ap (λ (x : model.Counts). x .members) eb) (members-sum ρ S o k here) in
+      let permissions = solve (r .permissions) (a .permissions) (q .permissions) (b .permissions) _ _ _ _ (h .permissions) (ap (λ (x : model.Counts). x .permissions) ea) (ap (λ (x : model.Counts). x .permissions) eq) (ap (λ (x : model.Counts). x .permissions) eb) (permissions-sum ρ S o k here) in
+      let links = solve (r .links) (a .links) (q .links) (b .links) _ _ _ _ (h .links) (ap (λ (x : model.Counts). x .links) ea) (ap (λ (x : model.Counts). x .links) eq) (ap (λ (x : model.Counts). x .links) eb) (links-sum ρ S o k here) in
       λ i. record { roles = roles i; members = members i; permissions = permissions i; links = links i }
 
   -- a row loses no more than it has
   pub came-within : Within a q
-  unfolding countsIn model.counts model.counted building takenFrom
+  unfolding countsOf model.counts model.counted building takenFrom
   came-within =
       let c = candidateCount ρ in
       let R = S ∖ single k in
@@ -138,22 +139,22 @@ module _ (ρ : Roles) (S k : ℕ) (q a : Counts) (eq : countsIn q ≡ model.coun
       fewer x y = ones-subset (x ∩ y) x (∩-subset-left x y)
 
 -- the counts without k
-module _ (ρ : Roles) (S k : ℕ) (o : Ordered ρ S) (here : So (has S k)) (q b a : Counts) (eq : countsIn q ≡ model.counts ρ S) (eb : countsIn b ≡ gainedBy ρ S k)
-    (ea : countsIn a ≡ takenFrom ρ S k) where
+module _ (ρ : Roles) (S k : ℕ) (o : Ordered ρ S) (here : So (has S k)) (q b a : Counts) (eq : countsOf q ≡ model.counts ρ S) (eb : countsOf b ≡ countedIn ρ S k)
+    (ea : countsOf a ≡ takenFrom ρ S k) where
   pub went : (r : Counts)
-      → (r .roles + b .roles ≡ q .roles + a .roles) × (r .members + b .members ≡ q .members + a .members) × (r .permissions + b .permissions ≡ q .permissions + a .permissions) × (r .links + b .links ≡ q .links + a .links)
-      → countsIn r ≡ model.counts ρ (S ∖ single k)
-  unfolding countsIn model.counts model.counted building takenFrom gainedBy
+      → Corrected q b a r
+      → countsOf r ≡ model.counts ρ (S ∖ single k)
+  unfolding countsOf model.counts model.counted building takenFrom countedIn roleCounts
   went r h =
-      let roles = solve (r .roles) (b .roles) (q .roles) (a .roles) (ones (S ∖ single k)) 1 (ones S) 0 (h .0) (ap (λ (x : model.Counts). x .roles) eb) (ap (λ (x : model.Counts). x .roles) eq) (ap (λ (x : model.Counts). x .roles) ea) (let e = roles-sum ρ S o k here in omega arith) in
-      let members = solve (r .members) (b .members) (q .members) (a .members) _ _ _ _ (h .1) (ap (λ (x : model.Counts). x .members) eb) (ap (λ (x : model.Counts). x .members) eq) (ap (λ (x : model.Counts). x .members) ea) (sym (members-sum ρ S o k here)) in
-      let permissions = solve (r .permissions) (b .permissions) (q .permissions) (a .permissions) _ _ _ _ (h .2) (ap (λ (x : model.Counts). x .permissions) eb) (ap (λ (x : model.Counts). x .permissions) eq) (ap (λ (x : model.Counts). x .permissions) ea) (sym (permissions-sum ρ S o k here)) in
-      let links = solve (r .links) (b .links) (q .links) (a .links) _ _ _ _ (h .3) (ap (λ (x : model.Counts). x .links) eb) (ap (λ (x : model.Counts). x .links) eq) (ap (λ (x : model.Counts). x .links) ea) (sym (links-sum ρ S o k here)) in
+      let roles = solve (r .roles) (b .roles) (q .roles) (a .roles) (ones (S ∖ single k)) 1 (ones S) 0 (h .roles) (ap (λ (x : model.Counts). x .roles) eb) (ap (λ (x : model.Counts). x .roles) eq) (ap (λ (x : model.Counts). x .roles) ea) (let e = roles-sum ρ S o k here in omega arith) in
+      let members = solve (r .members) (b .members) (q .members) (a .members) _ _ _ _ (h .members) (ap (λ (x : model.Counts). x .members) eb) (ap (λ (x : model.Counts). x .members) eq) (ap (λ (x : model.Counts). x .members) ea) (sym (members-sum ρ S o k here)) in
+      let permissions = solve (r .permissions) (b .permissions) (q .permissions) (a .permissions) _ _ _ _ (h .permissions) (ap (λ (x : model.Counts). x .permissions) eb) (ap (λ (x : model.Counts). x .permissions) eq) (ap (λ (x : model.Counts). x .permissions) ea) (sym (permissions-sum ρ S o k here)) in
+      let links = solve (r .links) (b .links) (q .links) (a .links) _ _ _ _ (h .links) (ap (λ (x : model.Counts). x .links) eb) (ap (λ (x : model.Counts). x .links) eq) (ap (λ (x : model.Counts). x .links) ea) (sym (links-sum ρ S o k here)) in
       λ i. record { roles = roles i; members = members i; permissions = permissions i; links = links i }
 
   -- what k has is no more than what there is, since the rows without k lose to it no more than they have
   pub went-within : Within b q
-  unfolding countsIn model.counts model.counted building takenFrom gainedBy
+  unfolding countsOf model.counts model.counted building takenFrom countedIn roleCounts
   went-within =
       let c = candidateCount ρ in
       let R = S ∖ single k in

@@ -6,35 +6,41 @@ use mathlib.Core.Logic.{_↔_}
 use mathlib.Core.List.{List}
 use Prim.Native.Nat.{ℕ, _+_, _*_, _^_, _≤_, _<_}
 use native.Mathlib.Nat.{lt-of-lt-of-le}
+use native.Mathlib.Omega.{arith}
 use lib.Count.{ones}
-use lib.ListN.{getD, take, drop}
-use Rattle.sets.specs.Sets.{has, _∩_, _∖_, single, collect}
+use lib.ListN.{take, drop}
+use Rattle.sets.specs.Truth.{_and_}
+use Rattle.sets.specs.Sets.{has, _∩_, _∖_, single}
+use Rattle.sets.proofs.Truth.{same-test, none-same}
 use Rattle.sets.proofs.Items.{same-set, item-below}
-use Rattle.sets.proofs.Order.{collect-iff, ∖-lt, collect-lt}
+use Rattle.sets.proofs.Order.{collect-iff, collect-same, ∖-iff, ∖-lt, collect-lt}
 use Rattle.model.specs.Lists.{setAt}
 use Rattle.model.specs.Hierarchy.{Roles, candidateCount, permissionSet, authorisedUsers, immediatelySenior, immediateJuniors, directPermissions, directMembers}
 use Rattle.model.specs.Indexes.{lower}
 use Rattle.model.specs.Quality as model
-use Rattle.model.specs.Record.{setsStart, permissionsStart, membersStart, juniorsStart, stateOf}
-use Rattle.model.specs.State.{rolesOf}
+use Rattle.model.specs.Record.{setsStart, permissionsStart, membersStart, juniorsStart}
+use Rattle.model.specs.State.{State, rolesOf}
 use Rattle.model.proofs.Reading.{Ordered, junior-iff, permission-iff, member-iff}
 use Rattle.model.proofs.Building.{stands-below}
 use Rattle.model.proofs.Record.{immediateJuniors-lt}
 use Rattle.model.proofs.Steps.{limits-ordered}
 use Rattle.tables.specs.Tables.{Holds}
-use Rattle.hierarchy.specs.Tables.{lessAll}
+use Rattle.tables.proofs.Parts.{setAt-part}
+use Rattle.hierarchy.specs.Tables.{lessAll, immediateSeniors}
 use Rattle.hierarchy.proofs.Sieving.{lessAll-iff}
+use Rattle.indexes.specs.Index.{lowerStart, usersStart}
 use Rattle.indexes.proofs.Sources.{narrow}
-use Rattle.edit_rows.proofs.Changing.{seniors-read, juniors-read, members-read}
-use Rattle.edit_rows.proofs.Removing.{permissions-read, sets-read}
-use Rattle.quality.specs.declared.counts.Counts.{Counts}
-use Rattle.quality.specs.Numbers.{countsIn, Few}
-use Rattle.edit_trials.specs.Trying.{over, gainedBy, rowAt, otherJuniors, otherSeniors, handedAt, Ready, Exact, Within}
-use Rattle.edit_trials.proofs.Sums.{over-inside}
+use Rattle.rows.specs.Linked.{Ready}
+use Rattle.rows.proofs.Linking.{seniors-told}
+use Rattle.edit_rows.specs.Neighbours.{Neighbours}
+use Rattle.edit_rows.proofs.Changing.{sets-read, seniors-read, juniors-read, members-read, permissions-read}
+use Rattle.quality.specs.declared.quality.Counts.{Counts}
+use Rattle.quality.specs.Reading.{countsOf, Few}
+use Rattle.edit_trials.specs.Trying.{roleCounts, countedIn, others, takenOver, takenAt, Within, Corrected}
+use Rattle.edit_trials.proofs.Sums.{over-read}
 use Rattle.edit_trials.proofs.Striking.{permission-taken, link-taken, member-taken}
 use Rattle.edit_trials.proofs.Coming.{takenFrom, went, went-within}
-use Rattle.edit_trials.proofs.Correcting.{exact-few}
-use Rattle.edit_trials.proofs.Moving.{roles-count}
+use Rattle.edit_trials.proofs.Counting.{role-counted, exact-few}
 
 -- what a table leaves of a set, told item by item
 left-over : (w c : ℕ) (table : List ℕ) (f : ℕ → ℕ) (own js g : ℕ) → c ≤ 128 → Holds w c f table → js < 2 ^ c → ((p : ℕ) → So (has own p) → p < 64 * w)
@@ -48,109 +54,127 @@ left-over w c table f own js g few held below small told =
     let a = told p .0 t in
     lessAll-iff w table own js p .1 (small p (a .0), a .0, λ x l y q. a .1 x y (rw (held x (item-below c js x below y)) at q)))
 
-module _ (ws low users : List ℕ) (ready : Ready ws low users) (k : ℕ) where
-  pub struck-seniors : (s : ℕ) → s ≡ collect (getD ws 2 0) (λ i. has (setAt 2 (take 256 (drop juniorsStart ws)) (2 * i)) k)
-      → s ≡ collect (candidateCount (rolesOf (stateOf ws))) (λ i. has (immediateJuniors (rolesOf (stateOf ws)) (stateOf ws .standing) i) k)
-  struck-seniors s e = e ∙ seniors-read (stateOf ws) (ready .limits) ws (ready .afresh) (getD ws 2 0) (roles-count ws low users ready k) k
+-- only roles below 128 are asked for
+less-same : (w : ℕ) (table : List ℕ) (own js js' : ℕ) → ((x : ℕ) → x < 128 → has js x ≡ has js' x) → lessAll w table own js ≡ lessAll w table own js'
+unfolding lessAll
+less-same w table own js js' same =
+    collect-same (64 * w) _ _
+    (λ p l.
+    ap (λ (t : Bool). has own p and t)
+    (none-same 128 (λ j. has js j and has (setAt w table (w * j)) p) (λ j. has js' j and has (setAt w table (w * j)) p)
+    (λ j lj. ap (λ (t : Bool). t and has (setAt w table (w * j)) p) (same j lj))))
 
-  pub struck-juniors : (t : ℕ) → k < 128 → t ≡ setAt 2 ws (juniorsStart + 2 * k) → t ≡ immediateJuniors (rolesOf (stateOf ws)) (stateOf ws .standing) k
-  struck-juniors t l e = e ∙ juniors-read (stateOf ws) (ready .limits) ws (ready .afresh) k l
+module _ (st : State) (ws index seniors : List ℕ) (ready : Ready st ws index seniors) (k : ℕ) (stands : So (has (st .standing) k)) where
+  abbrev ρ : Roles
+  ρ = rolesOf st
 
-  module _ (stands : So (has (stateOf ws .standing) k)) where
-    abbrev ρ : Roles
-    ρ = rolesOf (stateOf ws)
+  abbrev Q : ℕ
+  Q = st .standing
 
-    abbrev Q : ℕ
-    Q = stateOf ws .standing
+  abbrev c : ℕ
+  c = candidateCount (rolesOf st)
 
-    ordered : Ordered (rolesOf (stateOf ws)) (stateOf ws .standing)
-    ordered = limits-ordered (stateOf ws) (ready .limits)
+  ordered : Ordered (rolesOf st) (st .standing)
+  ordered = limits-ordered st (ready .limits)
 
-    known : k < candidateCount (rolesOf (stateOf ws))
-    known = stands-below ρ Q ordered k stands
+  few : candidateCount (rolesOf st) ≤ 128
+  few = ready .limits .candidates-most
 
-    small : (i : ℕ) → i < candidateCount (rolesOf (stateOf ws)) → i < 128
-    small i l = lt-of-lt-of-le l (ready .limits .candidates-most)
+  known : k < candidateCount (rolesOf st)
+  known = stands-below ρ Q ordered k stands
 
-    own-members : setAt 2 ws (membersStart + 2 * k) ≡ directMembers (rolesOf (stateOf ws)) (stateOf ws .standing) k
-    own-members = members-read (stateOf ws) (ready .limits) ws (ready .afresh) k (small k known)
+  small : (i : ℕ) → i < candidateCount (rolesOf st) → i < 128
+  small i l = lt-of-lt-of-le l few
 
-    own-permissions : setAt 4 ws (permissionsStart + 4 * k) ≡ directPermissions (rolesOf (stateOf ws)) (stateOf ws .standing) k
-    own-permissions = permissions-read (stateOf ws) (ready .limits) ws (ready .afresh) k (small k known)
+  juniors : (i : ℕ) → i < 128 → setAt 2 ws (juniorsStart + 2 * i) ≡ immediateJuniors (rolesOf st) (st .standing) i
+  juniors = juniors-read st (ready .limits) ws (ready .afresh)
 
-    juniors-but : (i : ℕ) → i < candidateCount (rolesOf (stateOf ws)) → otherJuniors ws k i ≡ immediateJuniors (rolesOf (stateOf ws)) (stateOf ws .standing) i ∖ single k
-    unfolding otherJuniors
-    juniors-but i l = ap (λ (x : ℕ). x ∖ single k) (juniors-read (stateOf ws) (ready .limits) ws (ready .afresh) i (small i l))
+  pub own-members : setAt 2 ws (membersStart + 2 * k) ≡ directMembers (rolesOf st) (st .standing) k
+  own-members = members-read st (ready .limits) ws (ready .afresh) k (small k known)
 
-    seniors-but : (j : ℕ) → otherSeniors (getD ws 2 0) ws k j
-        ≡ collect (candidateCount (rolesOf (stateOf ws))) (λ i. has (immediateJuniors (rolesOf (stateOf ws)) (stateOf ws .standing) i) j) ∖ single k
-    unfolding otherSeniors
-    seniors-but j = ap (λ (x : ℕ). x ∖ single k) (seniors-read (stateOf ws) (ready .limits) ws (ready .afresh) (getD ws 2 0) (roles-count ws low users ready k) j)
+  pub own-permissions : setAt 4 ws (permissionsStart + 4 * k) ≡ directPermissions (rolesOf st) (st .standing) k
+  own-permissions = permissions-read st (ready .limits) ws (ready .afresh) k (small k known)
 
-    module _ (i : ℕ) (l : i < candidateCount (rolesOf (stateOf ws))) (h : So (immediatelySenior (rolesOf (stateOf ws)) (stateOf ws .standing) i k)) where
-      others-below : immediateJuniors (rolesOf (stateOf ws)) (stateOf ws .standing) i ∖ single k < 2 ^ candidateCount (rolesOf (stateOf ws))
-      others-below = ∖-lt (candidateCount ρ) (immediateJuniors ρ Q i) (single k) (immediateJuniors-lt ρ Q i)
+  pub struck-neighbours : (s t : ℕ) → s ≡ setAt 2 seniors (2 * k) → s < 2 ^ 128 → t ≡ setAt 2 ws (juniorsStart + 2 * k) → Neighbours (rolesOf st) (st .standing) k s t
+  struck-neighbours s t es b et =
+      record { seniors = seniors-read st (ready .limits) ws (ready .afresh) seniors (ready .linked) k s (small k known) es b; juniors = et ∙ juniors k (small k known) }
 
-      permissions-row : lessAll 4 (take 512 (drop setsStart ws)) (setAt 4 ws (permissionsStart + 4 * k)) (otherJuniors ws k i)
-          ≡ directPermissions (rolesOf (stateOf ws)) (stateOf ws .standing ∖ single k) i ∩ permissionSet (rolesOf (stateOf ws)) k
-      permissions-row =
-          ap₂ (λ (x y : ℕ). lessAll 4 (take 512 (drop setsStart ws)) x y) own-permissions (juniors-but i l)
-          ∙ left-over 4 (candidateCount ρ) (take 512 (drop setsStart ws)) (permissionSet ρ) (directPermissions ρ Q k) (immediateJuniors ρ Q i ∖ single k) (directPermissions ρ (Q ∖ single k) i ∩ permissionSet ρ k)
-          (ready .limits .candidates-most) (sets-read (stateOf ws) (ready .limits) ws (ready .afresh)) others-below
-          (λ p t. lt-of-lt-of-le (permission-iff ρ Q k p .0 t .0) (narrow (stateOf ws) (ready .limits) .fewPermissions)) (permission-taken ρ Q ordered k stands i h)
+  -- ---- the neighbours' other neighbours
 
-      links-row : lessAll 2 low (immediateJuniors (rolesOf (stateOf ws)) (stateOf ws .standing) k) (otherJuniors ws k i)
-          ≡ immediateJuniors (rolesOf (stateOf ws)) (stateOf ws .standing ∖ single k) i ∩ immediateJuniors (rolesOf (stateOf ws)) (stateOf ws .standing) k
-      links-row =
-          ap (lessAll 2 low (immediateJuniors ρ Q k)) (juniors-but i l)
-          ∙ left-over 2 (candidateCount ρ) low (lower ρ) (immediateJuniors ρ Q k) (immediateJuniors ρ Q i ∖ single k) (immediateJuniors ρ (Q ∖ single k) i ∩ immediateJuniors ρ Q k)
-          (ready .limits .candidates-most) (ready .indexed .low-ones) others-below (λ j t. small j (junior-iff ρ Q k j .0 t .0)) (link-taken ρ Q ordered k stands i h)
+  juniors-but : (i : ℕ) → i < candidateCount (rolesOf st) → others (take 256 (drop juniorsStart ws)) k i ≡ immediateJuniors (rolesOf st) (st .standing) i ∖ single k
+  unfolding others
+  juniors-but i l =
+      let li = small i l in
+      ap (λ (x : ℕ). x ∖ single k) (setAt-part 2 juniorsStart 256 ws (2 * i) (omega arith) ∙ juniors i li)
 
-    members-row : (j : ℕ) → So (immediatelySenior (rolesOf (stateOf ws)) (stateOf ws .standing) k j)
-        → lessAll 2 users (setAt 2 ws (membersStart + 2 * k)) (otherSeniors (getD ws 2 0) ws k j)
-        ≡ directMembers (rolesOf (stateOf ws)) (stateOf ws .standing ∖ single k) j ∩ authorisedUsers (rolesOf (stateOf ws)) k
-    members-row j h =
-        let c = candidateCount ρ in
-        let above : ℕ → Bool = λ i. has (immediateJuniors ρ Q i) j in
-        ap₂ (λ (x y : ℕ). lessAll 2 users x y) own-members (seniors-but j)
-        ∙ left-over 2 c users (authorisedUsers ρ) (directMembers ρ Q k) (collect c above ∖ single k) (directMembers ρ (Q ∖ single k) j ∩ authorisedUsers ρ k)
-        (ready .limits .candidates-most) (ready .indexed .role-users) (∖-lt c (collect c above) (single k) (collect-lt c above))
-        (λ u t. lt-of-lt-of-le (member-iff ρ Q k u .0 t .0) (narrow (stateOf ws) (ready .limits) .fewUsers)) (member-taken ρ Q ordered k stands j h)
+  seniors-but : (table : List ℕ) (own j : ℕ) → j < candidateCount (rolesOf st)
+      → lessAll 2 table own (others seniors k j) ≡ lessAll 2 table own (immediateSeniors (rolesOf st) (st .standing) j ∖ single k)
+  unfolding others
+  seniors-but table own j l =
+      let told = seniors-told ρ Q few (ready .limits .standing-below) ws juniors seniors (ready .linked) j in
+      let near = setAt 2 seniors (2 * j) in
+      let above = immediateSeniors ρ Q j in
+      less-same 2 table own (near ∖ single k) (above ∖ single k)
+      (λ x lx.
+      let e = told x (small j l) lx in
+      same-test (has (near ∖ single k) x) (has (above ∖ single k) x) (λ t. let a = ∖-iff near (single k) x .0 t in ∖-iff above (single k) x .1 (rw e at (a .0), a .1))
+      (λ t. let a = ∖-iff above (single k) x .0 t in ∖-iff near (single k) x .1 (rw e (a .0), a .1)))
 
-    module _ (s t : ℕ) (es : s ≡ collect (candidateCount (rolesOf (stateOf ws))) (λ i. has (immediateJuniors (rolesOf (stateOf ws)) (stateOf ws .standing) i) k))
-        (et : t ≡ immediateJuniors (rolesOf (stateOf ws)) (stateOf ws .standing) k) (q b a : Counts) (eq : Exact ws q) (eb : countsIn b ≡ rowAt ws k s t)
-        (ea : (n : ℕ) → s < 2 ^ n → t < 2 ^ n → countsIn a ≡ handedAt n (getD ws 2 0) ws low users k s t) where
-      had : countsIn b ≡ gainedBy (rolesOf (stateOf ws)) (stateOf ws .standing) k
-      unfolding rowAt gainedBy
-      had =
-          eb
-          ∙ (λ i. record { roles = 1; members = ones (own-members i); permissions = ones (own-permissions i); links = ones (et i) + ones (es i) })
+  -- ---- what each neighbour takes over
 
-      over-read : handedAt (candidateCount (rolesOf (stateOf ws))) (getD ws 2 0) ws low users k s t ≡ takenFrom (rolesOf (stateOf ws)) (stateOf ws .standing) k
-      unfolding handedAt takenFrom
-      over-read =
-          let c = candidateCount ρ in
-          let above : ℕ → Bool = λ i. has (immediateJuniors ρ Q i) k in
-          let senior-in : (i : ℕ) → So (has (collect c above) i) → So (immediatelySenior ρ Q i k) = λ i x. junior-iff ρ Q i k .0 (collect-iff c above i .0 x .1) .1 in
-          let members = ap (λ (x : ℕ). over c x (λ j. ones (lessAll 2 users (setAt 2 ws (membersStart + 2 * k)) (otherSeniors (getD ws 2 0) ws k j)))) et
-          ∙ over-inside c (immediateJuniors ρ Q k) (λ j. ones (lessAll 2 users (setAt 2 ws (membersStart + 2 * k)) (otherSeniors (getD ws 2 0) ws k j))) (λ j. ones (directMembers ρ (Q ∖ single k) j ∩ authorisedUsers ρ k))
-          (λ j l x. ap ones (members-row j (junior-iff ρ Q k j .0 x .1))) in
-          let permissions = ap (λ (x : ℕ). over c x (λ i. ones (lessAll 4 (take 512 (drop setsStart ws)) (setAt 4 ws (permissionsStart + 4 * k)) (otherJuniors ws k i)))) es
-          ∙ over-inside c (collect c above) (λ i. ones (lessAll 4 (take 512 (drop setsStart ws)) (setAt 4 ws (permissionsStart + 4 * k)) (otherJuniors ws k i))) (λ i. ones (directPermissions ρ (Q ∖ single k) i ∩ permissionSet ρ k))
-          (λ i l x. ap ones (permissions-row i l (senior-in i x))) in
-          let links = ap₂ (λ (x y : ℕ). over c x (λ i. ones (lessAll 2 low y (otherJuniors ws k i)))) es et
-          ∙ over-inside c (collect c above) (λ i. ones (lessAll 2 low (immediateJuniors ρ Q k) (otherJuniors ws k i))) (λ i. ones (immediateJuniors ρ (Q ∖ single k) i ∩ immediateJuniors ρ Q k))
-          (λ i l x. ap ones (links-row i l (senior-in i x))) in
-          λ i. record { roles = 0; members = members i; permissions = permissions i; links = links i }
+  module _ (i : ℕ) (l : i < candidateCount (rolesOf st)) (h : So (immediatelySenior (rolesOf st) (st .standing) i k)) where
+    others-below : immediateJuniors (rolesOf st) (st .standing) i ∖ single k < 2 ^ candidateCount (rolesOf st)
+    others-below = ∖-lt c (immediateJuniors ρ Q i) (single k) (immediateJuniors-lt ρ Q i)
 
-      taken-over : countsIn a ≡ takenFrom (rolesOf (stateOf ws)) (stateOf ws .standing) k
-      taken-over =
-          ea (candidateCount ρ) (rw es (collect-lt (candidateCount ρ) (λ i. has (immediateJuniors ρ Q i) k))) (rw et (immediateJuniors-lt ρ Q k)) ∙ over-read
+    permissions-row : lessAll 4 (take 512 (drop setsStart ws)) (setAt 4 ws (permissionsStart + 4 * k)) (others (take 256 (drop juniorsStart ws)) k i)
+        ≡ directPermissions (rolesOf st) (st .standing ∖ single k) i ∩ permissionSet (rolesOf st) k
+    permissions-row =
+        ap₂ (lessAll 4 (take 512 (drop setsStart ws))) own-permissions (juniors-but i l)
+        ∙ left-over 4 c (take 512 (drop setsStart ws)) (permissionSet ρ) (directPermissions ρ Q k) (immediateJuniors ρ Q i ∖ single k) (directPermissions ρ (Q ∖ single k) i ∩ permissionSet ρ k)
+        few (sets-read st (ready .limits) ws (ready .afresh)) others-below
+        (λ p t. lt-of-lt-of-le (permission-iff ρ Q k p .0 t .0) (narrow st (ready .limits) .fewPermissions)) (permission-taken ρ Q ordered k stands i h)
+
+    links-row : lessAll 2 (take 256 (drop lowerStart index)) (immediateJuniors (rolesOf st) (st .standing) k) (others (take 256 (drop juniorsStart ws)) k i)
+        ≡ immediateJuniors (rolesOf st) (st .standing ∖ single k) i ∩ immediateJuniors (rolesOf st) (st .standing) k
+    links-row =
+        ap (lessAll 2 (take 256 (drop lowerStart index)) (immediateJuniors ρ Q k)) (juniors-but i l)
+        ∙ left-over 2 c (take 256 (drop lowerStart index)) (lower ρ) (immediateJuniors ρ Q k) (immediateJuniors ρ Q i ∖ single k) (immediateJuniors ρ (Q ∖ single k) i ∩ immediateJuniors ρ Q k)
+        few (ready .indexed .lower-roles) others-below (λ j t. small j (junior-iff ρ Q k j .0 t .0)) (link-taken ρ Q ordered k stands i h)
+
+  members-row : (j : ℕ) → j < candidateCount (rolesOf st) → So (immediatelySenior (rolesOf st) (st .standing) k j)
+      → lessAll 2 (take 256 (drop usersStart index)) (setAt 2 ws (membersStart + 2 * k)) (others seniors k j)
+      ≡ directMembers (rolesOf st) (st .standing ∖ single k) j ∩ authorisedUsers (rolesOf st) k
+  members-row j l h =
+      let users = take 256 (drop usersStart index) in
+      ap (λ (x : ℕ). lessAll 2 users x (others seniors k j)) own-members ∙ seniors-but users (directMembers ρ Q k) j l
+      ∙ left-over 2 c users (authorisedUsers ρ) (directMembers ρ Q k) (immediateSeniors ρ Q j ∖ single k) (directMembers ρ (Q ∖ single k) j ∩ authorisedUsers ρ k)
+      few (ready .indexed .role-users) (∖-lt c (immediateSeniors ρ Q j) (single k) (collect-lt c (λ i. has (immediateJuniors ρ Q i) j)))
+      (λ u t. lt-of-lt-of-le (member-iff ρ Q k u .0 t .0) (narrow st (ready .limits) .fewUsers)) (member-taken ρ Q ordered k stands j h)
+
+  -- ---- and all of them together
+
+  module _ (s t : ℕ) (near : Neighbours (rolesOf st) (st .standing) k s t) where
+    taken-read : takenAt ws index seniors k s t ≡ takenFrom (rolesOf st) (st .standing) k
+    unfolding takenAt takenOver takenFrom
+    taken-read =
+        let seniors-in : (i : ℕ) → So (has (immediateSeniors ρ Q k) i) → So (immediatelySenior ρ Q i k) =
+        λ i x. junior-iff ρ Q i k .0 (collect-iff c (λ i. has (immediateJuniors ρ Q i) k) i .0 x .1) .1 in
+        let seniors-below = collect-lt c (λ i. has (immediateJuniors ρ Q i) k) in
+        let members = over-read c t (immediateJuniors ρ Q k) _ (λ j. ones (directMembers ρ (Q ∖ single k) j ∩ authorisedUsers ρ k)) few (near .juniors) (immediateJuniors-lt ρ Q k)
+        (λ j l x. ap ones (members-row j l (junior-iff ρ Q k j .0 x .1))) in
+        let permissions = over-read c s (immediateSeniors ρ Q k) _ (λ i. ones (directPermissions ρ (Q ∖ single k) i ∩ permissionSet ρ k)) few (near .seniors) seniors-below
+        (λ i l x. ap ones (permissions-row i l (seniors-in i x))) in
+        let links = over-read c s (immediateSeniors ρ Q k) _ (λ i. ones (immediateJuniors ρ (Q ∖ single k) i ∩ immediateJuniors ρ Q k)) few (near .seniors) seniors-below
+        (λ i l x. ap (λ (y : ℕ). ones (lessAll 2 (take 256 (drop lowerStart index)) y (others (take 256 (drop juniorsStart ws)) k i))) (near .juniors) ∙ ap ones (links-row i l (seniors-in i x))) in
+        λ i. record { roles = 0; members = members i; permissions = permissions i; links = links i }
+
+    module _ (q b a : Counts) (us ps : ℕ) (eq : countsOf q ≡ model.counts (rolesOf st) (st .standing)) (eu : us ≡ setAt 2 ws (membersStart + 2 * k))
+        (ep : ps ≡ setAt 4 ws (permissionsStart + 4 * k)) (eb : countsOf b ≡ roleCounts us ps s t) (ea : countsOf a ≡ takenAt ws index seniors k s t) where
+      had : countsOf b ≡ countedIn (rolesOf st) (st .standing) k
+      had = eb ∙ role-counted ρ Q k us ps s t (eu ∙ own-members) (ep ∙ own-permissions) near
 
       pub struck-within : Few q × Within b q
-      struck-within = (exact-few (stateOf ws) (ready .limits) q eq, went-within ρ Q k ordered stands q b a eq had taken-over)
+      struck-within = (exact-few st (ready .limits) q eq, went-within ρ Q k ordered stands q b a eq had (ea ∙ taken-read))
 
-      pub struck-exact : (r : Counts)
-          → (r .roles + b .roles ≡ q .roles + a .roles) × (r .members + b .members ≡ q .members + a .members) × (r .permissions + b .permissions ≡ q .permissions + a .permissions) × (r .links + b .links ≡ q .links + a .links)
-          → countsIn r ≡ model.counts (rolesOf (stateOf ws)) (stateOf ws .standing ∖ single k)
-      struck-exact r h = went ρ Q k ordered stands q b a eq had taken-over r h
+      pub struck-exact : (r : Counts) → Corrected q b a r → countsOf r ≡ model.counts (rolesOf st) (st .standing ∖ single k)
+      struck-exact r h = went ρ Q k ordered stands q b a eq had (ea ∙ taken-read) r h

@@ -1,9 +1,7 @@
 pub mod Striking
 pub mod Sums
-pub mod Correcting
-pub mod Losing
-pub mod Handing
+pub mod Counting
 pub mod Coming
-pub mod Moving
 pub mod Leaving
+pub mod Moving
 pub mod Runs

@@ -14,6 +14,7 @@ use Rattle.model.proofs.Reading.{Ordered, senior-iff, immediate-iff, junior-iff
 use Rattle.model.proofs.Building.{stands-below, senior-trans, senior-stands, senior-permission, senior-user, link-iff, link-senior, chain-senior, senior-chain, senior-differs}
 use Rattle.model.proofs.Changes.{stands-other, senior-other}
 use Rattle.model.proofs.Shortcuts.{lower-iff}
+use Rattle.hierarchy.specs.Tables.{immediateSeniors}
 
 -- S is the standing set with k
 module _ (ρ : Roles) (S : ℕ) (o : Ordered ρ S) where
@@ -46,7 +47,7 @@ module _ (ρ : Roles) (S : ℕ) (o : Ordered ρ S) where
           ),
     )
 
-    senior-of : (j x : ℕ) → So (has (collect (candidateCount ρ) (λ i. has (immediateJuniors ρ S i) j) ∖ single k) x) ↔ (So (immediatelySenior ρ S x j) × (x ≢ k))
+    senior-of : (j x : ℕ) → So (has (immediateSeniors ρ S j ∖ single k) x) ↔ (So (immediatelySenior ρ S x j) × (x ≢ k))
     senior-of j x =
         let test : ℕ → Bool = λ i. has (immediateJuniors ρ S i) j in
         let all = collect (candidateCount ρ) test in (
@@ -147,7 +148,7 @@ module _ (ρ : Roles) (S : ℕ) (o : Ordered ρ S) where
     -- an immediate junior takes over direct members of k
     pub member-taken : (j : ℕ) → So (immediatelySenior ρ S k j) → (u : ℕ)
         → So (has (directMembers ρ (S ∖ single k) j ∩ authorisedUsers ρ k) u)
-        ↔ (So (has (directMembers ρ S k) u) × ((x : ℕ) → So (has (collect (candidateCount ρ) (λ i. has (immediateJuniors ρ S i) j) ∖ single k) x) → So (has (authorisedUsers ρ x) u) → ⊥))
+        ↔ (So (has (directMembers ρ S k) u) × ((x : ℕ) → So (has (immediateSeniors ρ S j ∖ single k) x) → So (has (authorisedUsers ρ x) u) → ⊥))
     member-taken j h u =
         let s = immediate-iff ρ S k j .0 h .0 in
         let d : j ≢ k = λ e. senior-differs ρ S o k j s (sym e) in (

@@ -8,10 +8,10 @@ use native.Mathlib.Omega.{arith}
 use lib.Count.{ones}
 use Rattle.sets.specs.Truth.{total, if_then_else_}
 use Rattle.sets.specs.Sets.{has, _∖_, single}
-use Rattle.sets.proofs.Truth.{by-test, same-test, So-not, not-So, equal-or, total-same, if-true, if-false}
-use Rattle.sets.proofs.Items.{has-zero, item-below, item-of, empty-of}
-use Rattle.sets.proofs.Order.{∖-iff, ∖-lt, single-iff, single-lt}
-use Rattle.sets.proofs.Counts.{total-add, total-≤, total-zero, total-except, ones-none, ones-zero, ones-without}
+use Rattle.sets.proofs.Truth.{by-test, same-test, So-not, not-So, either, equal-or, total-same, if-true, if-false}
+use Rattle.sets.proofs.Items.{has-zero, has-above, item-below, item-of, empty-of}
+use Rattle.sets.proofs.Order.{∖-iff, ∖-lt, single-iff}
+use Rattle.sets.proofs.Counts.{total-suc, total-add, total-≤, total-zero, total-except, ones-none, ones-zero, ones-without}
 use Rattle.edit_trials.specs.Trying.{over}
 
 pub over-none : (n s : ℕ) (f : ℕ → ℕ) → s ≡ 0 → over n s f ≡ 0
@@ -20,12 +20,12 @@ over-none n s f e =
     total-zero n (λ i. if has s i then f i else 0) (λ i l. if-false (has s i) (f i) 0 (rw e (has-zero i)))
 
 -- one item taken out of the set
-pub over-more : (n s k : ℕ) (f : ℕ → ℕ) → s < 2 ^ n → So (has s k) → over n s f ≡ f k + over n (s ∖ single k) f
+pub over-more : (n s k : ℕ) (f : ℕ → ℕ) → k < n → So (has s k) → over n s f ≡ f k + over n (s ∖ single k) f
 unfolding over
-over-more n s k f b h =
+over-more n s k f lk h =
     let a : ℕ → ℕ = λ i. if has s i then f i else 0 in
     let z : ℕ → ℕ = λ i. if has (s ∖ single k) i then f i else 0 in
-    let e = total-except n k a z (item-below n s k b h)
+    let e = total-except n k a z lk
     (λ i l d.
     ap (λ (t : Bool). if t then f i else 0)
     (same-test (has s i) (has (s ∖ single k) i) (λ x. ∖-iff s (single k) i .1 (x, λ y. d (sym (single-iff k i .0 y)))) (λ x. ∖-iff s (single k) i .0 x .0))) in
@@ -33,6 +33,18 @@ over-more n s k f b h =
     let gone : z k ≡ 0 = if-false (has (s ∖ single k) k) (f k) 0 (not-So (has (s ∖ single k) k) (λ x. ∖-iff s (single k) k .0 x .1 (single-iff k k .1 refl))) in
     let w : total n a + z k ≡ total n z + a k = e in
     omega arith
+
+-- past the items of s nothing is added
+pub over-wide : (m n s : ℕ) (f : ℕ → ℕ) → n ≤ m → s < 2 ^ n → over m s f ≡ over n s f
+unfolding over
+over-wide zero n s f l b = let e : n ≡ 0 = omega arith in rw e refl
+over-wide (suc m) n s f l b =
+    either m n (λ h. let e : n ≡ suc m = omega arith in rw e refl)
+    (λ h.
+    let z = if-false (has s m) (f m) 0 (has-above n s m b h) in
+    let t = total-suc m (λ i. if has s i then f i else 0) in
+    let r : total m (λ i. if has s i then f i else 0) ≡ total n (λ i. if has s i then f i else 0) = over-wide m n s f h b in
+    omega arith)
 
 -- two sums that agree at the items of s
 pub over-inside : (n s : ℕ) (f g : ℕ → ℕ) → ((i : ℕ) → i < n → So (has s i) → f i ≡ g i) → over n s f ≡ over n s g
@@ -46,11 +58,15 @@ over-inside n s f g same =
 pub over-same : (n s : ℕ) (f g : ℕ → ℕ) → ((i : ℕ) → i < n → f i ≡ g i) → over n s f ≡ over n s g
 over-same n s f g same = over-inside n s f g (λ i l h. same i l)
 
+-- a sum of the code, over sets below 128, told by one over the n roles
+pub over-read : (n s s' : ℕ) (f g : ℕ → ℕ) → n ≤ 128 → s ≡ s' → s' < 2 ^ n → ((i : ℕ) → i < n → So (has s' i) → f i ≡ g i) → over 128 s f ≡ over n s' g
+over-read n s s' f g few e b same = ap (λ (x : ℕ). over 128 x f) e ∙ over-wide 128 n s' f few b ∙ over-inside n s' f g same
+
 -- ---- one entry comes in, and those of s lose to it
 
 over-one : (n k y : ℕ) → k < n → over n (single k) (λ i. y) ≡ y
 over-one n k y l =
-    let a = over-more n (single k) k (λ i. y) (single-lt n k l) (single-iff k k .1 refl) in
+    let a = over-more n (single k) k (λ i. y) l (single-iff k k .1 refl) in
     let b = over-none n (single k ∖ single k) (λ i. y) (empty-of (single k ∖ single k) (λ i t. let x = ∖-iff (single k) (single k) i .0 t in x .1 (x .0))) in
     omega arith
 
@@ -59,7 +75,7 @@ over-each zero n s b e = over-none n s (λ i. 1) (ones-none s e)
 over-each (suc m) n s b e =
     let k = item-of s (λ (z : s ≡ 0). let q : ones s ≡ 0 = rw z ones-zero in let w : ⊥ = omega arith in w) in
     let o = ones-without s (k .0) (k .1) in
-    let a = over-more n s (k .0) (λ i. 1) b (k .1) in
+    let a = over-more n s (k .0) (λ i. 1) (item-below n s (k .0) b (k .1)) (k .1) in
     let r = over-each m n (s ∖ single (k .0)) (∖-lt n s (single (k .0)) b) (omega arith) in
     omega arith
 

@@ -1,23 +1,30 @@
 // A restoration weighed without writing it: the counts that the record would have.
 ghost use mathlib.Core.Path.{_≡_};
-ghost use mathlib.Core.Bool.{false};
 ghost use Prim.Native.Nat.{_^_, _<_};
 ghost use lib.ListN.{length, take, drop};
 ghost use Rattle.sets.specs.Held.{set128};
-ghost use Rattle.sets.specs.Sets.{has, collect};
-ghost use Rattle.model.specs.Hierarchy.{Roles, candidateCount, permissionSet, authorisedUsers, immediateJuniors};
+ghost use Rattle.sets.specs.Sets.{_∪_, single};
+ghost use Rattle.model.specs.Hierarchy.{Roles, candidateCount, permissionSet};
 ghost use Rattle.model.specs.Record.{recordLength, setsStart, stateOf};
 ghost use Rattle.model.specs.State.{rolesOf};
 ghost use Rattle.tables.specs.Tables.{Holds};
 ghost use Rattle.hierarchy.specs.Tables.{Numbered, Narrow};
-ghost use Rattle.quality.specs.Numbers.{countsIn, Few};
-ghost use Rattle.edit_trials.specs.Trying.{Ready, Exact, gainedBy, Restores};
+ghost use Rattle.indexes.specs.Index.{indexLength, RoleUsers};
+ghost use Rattle.edit_rows.specs.Neighbours.{Neighbours};
+ghost use Rattle.quality.specs.Reading.{countsOf, Few};
+ghost use Rattle.edit_trials.specs.Trying.{countedIn, Exact, Restorable, Tried};
 use crate::count::corrected;
+use crate::count::role_counts;
 use crate::lost::lost;
-use edit_rows::seniors_of;
+use crate::trial::Trial;
 use hierarchy::juniors_of;
 use hierarchy::members_of;
 use hierarchy::permissions_of;
+use hierarchy::seniors_of;
+use indexes::HOLDERS;
+use indexes::LOWER;
+use indexes::ROLES;
+use indexes::USERS;
 use quality::Counts;
 use sets::Set128;
 use tables::PERMISSIONS;
@@ -25,49 +32,43 @@ use tables::SETS;
 use tables::STANDING;
 use tables::load128;
 
-// The counts that the record would have with a role put back, and the neighbours that the role would have.
-pub struct Restoration {
-    pub counts: Counts,
-    pub seniors: Set128,
-    pub juniors: Set128,
-}
-
 // What k would bring: its row, and a link from each senior.
 fn gained(
     rec: &[u64],
-    users: &[u64],
-    k: usize,
+    index: &[u64],
     standing: Set128,
-    seniors: Set128,
-    juniors: Set128,
+    k: usize,
+    above: Set128,
+    below: Set128,
 ) -> Counts
-    requires { ⌜ (length (now rec) ≡ recordLength) × (length (now users) ≡ 256) × (k < 128) ⌝ }
-    ensures { λ r. ⌜ Few r × ((ρ : Roles) → Numbered ρ → Narrow ρ → Holds 4 (candidateCount ρ) (permissionSet ρ) (take 512 (drop setsStart (now (rec .entry)))) → Holds 2 (candidateCount ρ) (authorisedUsers ρ) (now (users .entry)) → set128 standing < 2 ^ candidateCount ρ → set128 juniors ≡ immediateJuniors ρ (set128 standing) k → set128 seniors ≡ collect (candidateCount ρ) (λ i. has (immediateJuniors ρ (set128 standing) i) k) → countsIn r ≡ gainedBy ρ (set128 standing) k) ⌝ }
+    requires { ⌜ length (now rec) ≡ recordLength ⌝ }
+    requires { ⌜ length (now index) ≡ indexLength ⌝ }
+    requires { ⌜ k < 128 ⌝ }
+    ensures { λ r. ⌜ Few r ⌝ }
+    ensures { λ r. ⌜ ((ρ : Roles) → Numbered ρ → Narrow ρ → Holds 4 (candidateCount ρ) (permissionSet ρ) (take 512 (drop setsStart (now (rec .entry)))) → RoleUsers ρ (now (index .entry)) → set128 standing < 2 ^ candidateCount ρ → Neighbours ρ (set128 standing) k (set128 above) (set128 below) → countsOf r ≡ countedIn ρ (set128 standing) k) ⌝ }
 {
-    let members = members_of(users, seniors, standing, k).count();
-    let permissions = permissions_of(&rec[SETS..PERMISSIONS], juniors, standing, k).count();
-    let links = juniors.count() + seniors.count();
-    Counts {
-        roles: 1,
-        members: members as u64,
-        permissions: permissions as u64,
-        links: links as u64,
-    }
+    let members = members_of(&index[USERS..HOLDERS], above, standing, k);
+    let permissions = permissions_of(&rec[SETS..PERMISSIONS], below, standing, k);
+    role_counts(members, permissions, above, below)
 }
 
 // What putting the absent candidate k back would do to the counts q. Only the rows of its neighbours lose anything, and only to k.
-pub fn if_restored(rec: &[u64], low: &[u64], users: &[u64], q: Counts, k: usize) -> Restoration
-    requires { ⌜ (length (now rec) ≡ recordLength) × (length (now low) ≡ 256) × (length (now users) ≡ 256) × (k < 128) × Ready (now rec) (now low) (now users) × Exact (now rec) q × (k < candidateCount (rolesOf (stateOf (now rec)))) × (has (stateOf (now rec) .standing) k ≡ false) ⌝ }
-    ensures { λ r. ⌜ Restores (now (rec .entry)) k r ⌝ }
+pub fn if_restored(rec: &[u64], index: &[u64], q: Counts, k: usize) -> Trial
+    requires { ⌜ Restorable (stateOf (now rec)) (now rec) (now index) k ⌝ }
+    requires { ⌜ Exact (now rec) q ⌝ }
+    requires { ⌜ k < 128 ⌝ }
+    requires { ⌜ length (now rec) ≡ recordLength ⌝ }
+    requires { ⌜ length (now index) ≡ indexLength ⌝ }
+    ensures { λ r. ⌜ Tried (rolesOf (stateOf (now (rec .entry)))) (stateOf (now (rec .entry)) .standing ∪ single k) (stateOf (now (rec .entry)) .standing ∪ single k) k r ⌝ }
 {
     let standing = load128(rec, STANDING).insert(k);
-    let seniors = seniors_of(low, standing, k);
-    let juniors = juniors_of(low, standing, k);
-    let taken = lost(rec, users, k, seniors, juniors);
-    let brought = gained(rec, users, k, standing, seniors, juniors);
-    Restoration {
-        counts: corrected(q, taken, brought),
-        seniors,
-        juniors,
+    let above = seniors_of(&index[LOWER..ROLES], standing, k);
+    let below = juniors_of(&index[LOWER..ROLES], standing, k);
+    let given = lost(rec, index, k, above, below);
+    let brought = gained(rec, index, standing, k, above, below);
+    Trial {
+        counts: corrected(q, given, brought),
+        above,
+        below,
     }
 }

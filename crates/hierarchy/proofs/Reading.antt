@@ -1,14 +1,26 @@
--- The rows of a record that is built afresh, read as sets.
+-- The sets and the rows of a record that is built afresh, read as sets.
 -- Assumes nothing.
 use mathlib.Core.Path.{_≡_, _∙_}
 use Prim.Native.Nat.{ℕ, _+_, _*_, _<_}
+use native.Mathlib.Nat.{lt-of-lt-of-le}
 use native.Mathlib.Omega.{arith}
+use lib.ListN.{take, drop}
+use lib.Pow.{pow-mono}
 use Rattle.model.specs.Lists.{setAt}
-use Rattle.model.specs.Hierarchy.{immediateJuniors, directPermissions, directMembers}
-use Rattle.model.specs.Record.{permissionsStart, membersStart, juniorsStart, built, Limits}
+use Rattle.model.specs.Hierarchy.{candidateCount, permissionSet, immediateJuniors, directPermissions, directMembers}
+use Rattle.model.specs.Record.{setsStart, permissionsStart, membersStart, juniorsStart, built, Limits}
 use Rattle.model.specs.State.{State, rolesOf}
 use Rattle.model.proofs.Lists.{setAt-words}
-use Rattle.model.proofs.Record.{built-word, word-permissions, word-members, word-juniors, permissions-small, members-small, juniors-small}
+use Rattle.model.proofs.Record.{built-word, read-set, word-permissions, word-members, word-juniors, permissions-small, members-small, juniors-small}
+use Rattle.tables.specs.Tables.{Holds}
+use Rattle.tables.proofs.Parts.{setAt-part}
+use Rattle.hierarchy.specs.Tables.{Narrow}
+
+-- the sets of all candidates, as a table
+pub read-sets : (st : State) → Limits st → Narrow (rolesOf st) → Holds 4 (candidateCount (rolesOf st)) (permissionSet (rolesOf st)) (take 512 (drop setsStart (built st)))
+read-sets st lim w k l =
+    let few = lim .candidates-most in
+    setAt-part 4 setsStart 512 (built st) (4 * k) (omega arith) ∙ read-set st lim k (omega arith) (lt-of-lt-of-le (w .inside k l) (pow-mono (w .fewPermissions)))
 
 module _ (st : State) (lim : Limits st) (k : ℕ) (lk : k < 128) where
   pub read-permissions-of : setAt 4 (built st) (permissionsStart + 4 * k) ≡ directPermissions (rolesOf st) (st .standing) k

@@ -8,12 +8,12 @@ use Prim.Native.Nat.{ℕ, _+_, _*_, _^_, _≤_, _<_}
 use native.Mathlib.Nat.{lt-of-lt-of-le}
 use native.Mathlib.Omega.{arith}
 use lib.ListN.{length, getD, take, drop}
-use lib.Pow.{pow-pos}
+use lib.Pow.{pow-mono, pow-pos}
 use Rattle.sets.specs.Truth.{if_then_else_}
 use Rattle.sets.specs.Sets.{has, _∪_, _∖_, single, collect}
 use Rattle.sets.proofs.Truth.{by-test, same-test, not-So, So-not, either, equal-or, if-true, if-false}
-use Rattle.sets.proofs.Items.{has-zero, has-above, item-below, same-set}
-use Rattle.sets.proofs.Order.{∪-iff, ∖-iff, single-iff, has-with, has-collect, collect-iff, collect-lt}
+use Rattle.sets.proofs.Items.{has-zero, has-above, same-below}
+use Rattle.sets.proofs.Order.{∪-iff, ∖-iff, single-iff, has-with, has-collect, collect-lt}
 use Rattle.sets.proofs.Words.{word-zero}
 use Rattle.model.specs.Lists.{setAt}
 use Rattle.model.specs.Hierarchy.{Roles, candidateCount, immediateJuniors}
@@ -109,18 +109,18 @@ module _ (ρ : Roles) (R : ℕ) (few : candidateCount ρ ≤ 128) (b : R < 2 ^ c
   none-past : (i : ℕ) → c ≤ i → immediateJuniors ρ R i ≡ 0
   none-past i l = absent-juniors ρ R i (So-not (has-above c R i b l))
 
-  -- an entry holds the immediate seniors
-  pub seniors-held : (seniors : List ℕ) (j x : ℕ) → Linked ws seniors → j < 128 → x ≡ setAt 2 seniors (2 * j) → x < 2 ^ 128
-      → x ≡ immediateSeniors ρ R j
-  seniors-held seniors j x l lj ex small =
-      let told : (i : ℕ) → i < 128 → has x i ≡ has (immediateJuniors ρ R i) j =
-      λ i li. ap (λ (z : ℕ). has z i) ex ∙ l .turned i j li lj ∙ ap (λ (z : ℕ). has z j) (held i li) in
+  -- an entry tells the immediate seniors
+  pub seniors-told : (seniors : List ℕ) → Linked ws seniors → (j i : ℕ) → j < 128 → i < 128 → has (setAt 2 seniors (2 * j)) i ≡ has (immediateSeniors ρ R j) i
+  seniors-told seniors l j i lj li =
       let test : ℕ → Bool = λ i. has (immediateJuniors ρ R i) j in
-      same-set x (collect c test)
-      (λ i p.
-      let q : So (has (immediateJuniors ρ R i) j) = sym (told i (item-below 128 x i small p)) ∙ p in
-      collect-iff c test i .1 (either i c (λ a. a) (λ a. absurd (So-not (has-zero j) (rw (none-past i a) at q))), q))
-      (λ i p. let a = collect-iff c test i .0 p in told i (lt-of-lt-of-le (a .0) few) ∙ a .1)
+      l .turned i j li lj ∙ ap (λ (z : ℕ). has z j) (held i li)
+      ∙ either i c (λ a. sym (has-collect c test i a))
+      (λ a. ap (λ (z : ℕ). has z j) (none-past i a) ∙ has-zero j ∙ sym (has-above c (collect c test) i (collect-lt c test) a))
+
+  pub seniors-held : (seniors : List ℕ) (j x : ℕ) → Linked ws seniors → j < 128 → x ≡ setAt 2 seniors (2 * j) → x < 2 ^ 128 → x ≡ immediateSeniors ρ R j
+  seniors-held seniors j x l lj ex small =
+      same-below 128 x (immediateSeniors ρ R j) small (lt-of-lt-of-le (collect-lt c (λ i. has (immediateJuniors ρ R i) j)) (pow-mono few))
+      (λ i li. ap (λ (z : ℕ). has z i) ex ∙ seniors-told seniors l j i lj li)
 
   -- the columns of the juniors, in a table of zeros
   module _ (size : (i : ℕ) → immediateJuniors ρ R i < 2 ^ candidateCount ρ) where

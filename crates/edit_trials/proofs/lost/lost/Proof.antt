@@ -1,53 +1,92 @@
--- Both sums together.
+-- The three sums together.
 -- Assumes nothing.
-use mathlib.Core.Path.{refl}
 use borrow.Author.Needs.{needs}
-use Rattle.edit_trials.proofs.Losing.{lost-all}
+use mathlib.Core.Path.{refl}
+use Rattle.edit_trials.proofs.Counting.{lost-all}
 use Rattle.edit_trials.proofs.lost.lost.Statement.{statement}
 use Rattle.edit_trials.proofs.lost.lost.Tie as tie
-
-sub-load256 : tie.Need-sub-load256
-sub-load256 c = search needs
-
-part-load256-start : tie.Need-part-load256-start
-part-load256-start c = search needs
-
-part-load256-end : tie.Need-part-load256-end
-part-load256-end c = search needs
-
-mul-load256 : tie.Need-mul-load256
-mul-load256 c = search needs
-
-load256-requires : tie.Need-load256-requires
-load256-requires c κs = search needs
-
-lost-above-requires : tie.Need-lost-above-requires
-lost-above-requires c κs = search needs
 
 mul-load128 : tie.Need-mul-load128
 mul-load128 c = search needs
 
+add-load128 : tie.Need-add-load128
+add-load128 c = search needs
+
 load128-requires : tie.Need-load128-requires
 load128-requires c κs = search needs
 
-lost-below-requires : tie.Need-lost-below-requires
-lost-below-requires c κs = search needs
+mul-load256 : tie.Need-mul-load256
+mul-load256 c = search needs
+
+add-load256 : tie.Need-add-load256
+add-load256 c = search needs
+
+load256-requires : tie.Need-load256-requires
+load256-requires c κs = search needs
+
+sub-shared128 : tie.Need-sub-shared128
+sub-shared128 c = search needs
+
+part-shared128-start : tie.Need-part-shared128-start
+part-shared128-start c = search needs
+
+part-shared128-end : tie.Need-part-shared128-end
+part-shared128-end c = search needs
+
+shared128-requires : tie.Need-shared128-requires
+shared128-requires c κs = search needs
+
+sub-shared256 : tie.Need-sub-shared256
+sub-shared256 c = search needs
+
+part-shared256-start : tie.Need-part-shared256-start
+part-shared256-start c = search needs
+
+part-shared256-end : tie.Need-part-shared256-end
+part-shared256-end c = search needs
+
+shared256-requires : tie.Need-shared256-requires
+shared256-requires c κs = search needs
+
+sub-shared128-2 : tie.Need-sub-shared128-2
+sub-shared128-2 c = search needs
+
+part-shared128-start-2 : tie.Need-part-shared128-start-2
+part-shared128-start-2 c = search needs
+
+part-shared128-end-2 : tie.Need-part-shared128-end-2
+part-shared128-end-2 c = search needs
+
+shared128-requires-2 : tie.Need-shared128-requires-2
+shared128-requires-2 c κs = search needs
 
 returns : tie.Need-returns
 returns c =
-    λ n ls lt. lost-all _ n _ _ _ _ _ _ _ (c .before .before .before .load256 .ensures) (c .before .load128 .ensures) refl (c .lost-below .ensures n lt) (c .before .before .lost-above .ensures n ls)
+    let permissions = c .before .before in
+    let members = permissions .before .before in
+    let own = members .before .before in
+    lost-all _ _ _ _ _ _ _ _ (own .before .load128 .ensures) (own .load256 .ensures) refl (members .shared128 .ensures .1) (permissions .shared256 .ensures .1) (c .shared1282 .ensures .1)
 
 pub lost-spec : {M : Type 1} → statement M
 lost-spec =
     tie.close
     (tie.spec
-    sub-load256
-    part-load256-start
-    part-load256-end
-    mul-load256
-    load256-requires
-    lost-above-requires
     mul-load128
+    add-load128
     load128-requires
-    lost-below-requires
+    mul-load256
+    add-load256
+    load256-requires
+    sub-shared128
+    part-shared128-start
+    part-shared128-end
+    shared128-requires
+    sub-shared256
+    part-shared256-start
+    part-shared256-end
+    shared256-requires
+    sub-shared128-2
+    part-shared128-start-2
+    part-shared128-end-2
+    shared128-requires-2
     returns)

@@ -1,75 +1,96 @@
--- The neighbours of k are those that the record tells, and the counts are corrected by what it has and what they take over.
+-- The neighbours of k are those that the table and the record tell, and the counts are corrected by what it has and what they take over.
 -- Assumes nothing.
 use borrow.Author.Needs.{needs}
-use Rattle.edit_trials.proofs.Moving.{ready-few}
-use Rattle.edit_trials.proofs.Leaving.{struck-seniors, struck-juniors, struck-within, struck-exact}
+use Prim.Native.Nat.{_^_, _<_}
+use Rattle.sets.specs.Held.{set128}
+use Rattle.sets.proofs.Written.{words, held128}
+use Rattle.edit_trials.proofs.Leaving.{struck-neighbours, struck-within, struck-exact}
 use Rattle.edit_trials.proofs.strike.if_struck.Statement.{statement}
 use Rattle.edit_trials.proofs.strike.if_struck.Tie as tie
-
-shared-slice-read-c : tie.Need-shared-slice-read-c
-shared-slice-read-c c = search needs
-
-sub-column : tie.Need-sub-column
-sub-column c = search needs
-
-part-column-start : tie.Need-part-column-start
-part-column-start c = search needs
-
-part-column-end : tie.Need-part-column-end
-part-column-end c = search needs
-
-column-requires : tie.Need-column-requires
-column-requires c κs = let few = ready-few _ _ _ (c .before .before .before .before .before .pre .4) in (few, search needs)
 
 mul-load128 : tie.Need-mul-load128
 mul-load128 c = search needs
 
-add-load128 : tie.Need-add-load128
-add-load128 c = search needs
-
 load128-requires : tie.Need-load128-requires
 load128-requires c κs = search needs
 
-row-of-requires : tie.Need-row-of-requires
-row-of-requires c κs = search needs
+mul-load128-2 : tie.Need-mul-load128-2
+mul-load128-2 c = search needs
 
-handed-requires : tie.Need-handed-requires
-handed-requires c κs =
-    let given = c .before .before .before .before .before .before .before .before .pre in
-    (given .0, given .1, given .2, ready-few _ _ _ (given .4), given .3)
+add-load128 : tie.Need-add-load128
+add-load128 c = search needs
+
+load128-requires-2 : tie.Need-load128-requires-2
+load128-requires-2 c κs = search needs
+
+mul-load128-3 : tie.Need-mul-load128-3
+mul-load128-3 c = search needs
+
+add-load128-2 : tie.Need-add-load128-2
+add-load128-2 c = search needs
+
+load128-requires-3 : tie.Need-load128-requires-3
+load128-requires-3 c κs = search needs
+
+mul-load256 : tie.Need-mul-load256
+mul-load256 c = search needs
+
+add-load256 : tie.Need-add-load256
+add-load256 c = search needs
+
+load256-requires : tie.Need-load256-requires
+load256-requires c κs = search needs
+
+role-counts-requires : tie.Need-role-counts-requires
+role-counts-requires c κs = search needs
+
+taken-requires : tie.Need-taken-requires
+taken-requires c κs = search needs
+
+narrow : (c : tie.After-load128) → set128 (c .load128 .result) < 2 ^ 128
+narrow c = search (words, held128)
 
 corrected-requires : tie.Need-corrected-requires
 corrected-requires c κs =
-    let given = c .before .before .before .before .before .before .before .before .before .pre in
-    let s = struck-seniors _ _ _ (given .4) _ _ (c .before .before .before .column .ensures) in
-    let t = struck-juniors _ _ _ (given .4) _ _ (given .3) (c .before .before .load128 .ensures) in
-    let w = struck-within _ _ _ (given .4) _ (given .6) _ _ s t _ _ _ (given .5) (c .before .row-of .ensures) (c .handed .ensures .1) in
-    (w .0, c .handed .ensures .0, w .1)
+    let row = c .before .before in
+    let near = row .before .before .before in
+    let start = near .before .before .before .before in
+    let ready = start .pre .0 in
+    let stands = start .pre .1 .1 .0 in
+    let around = struck-neighbours _ _ _ _ ready _ stands _ _ (near .load128 .ensures) (narrow near) (row .before .before .load1282 .ensures) in
+    let within = struck-within _ _ _ _ ready _ stands _ _ around _ _ _ _ _ (start .pre .1 .0) (row .before .load1283 .ensures) (row .load256 .ensures) (c .before .role-counts .ensures .1) (c .taken .ensures .1) in
+    (within .0, (c .taken .ensures .0, within .1))
 
 returns : tie.Need-returns
 returns c =
-    let given = c .before .before .before .before .before .before .before .before .before .before .pre in
-    let s = struck-seniors _ _ _ (given .4) _ _ (c .before .before .before .before .column .ensures) in
-    let t = struck-juniors _ _ _ (given .4) _ _ (given .3) (c .before .before .before .load128 .ensures) in
+    let row = c .before .before .before in
+    let near = row .before .before .before in
+    let start = near .before .before .before .before in
+    let ready = start .pre .0 in
+    let stands = start .pre .1 .1 .0 in
+    let around = struck-neighbours _ _ _ _ ready _ stands _ _ (near .load128 .ensures) (narrow near) (row .before .before .load1282 .ensures) in
     record {
-      counts = struck-exact _ _ _ (given .4) _ (given .6) _ _ s t _ _ _ (given .5) (c .before .before .row-of .ensures) (c .before .handed .ensures .1) _ (c .corrected .ensures);
-      seniors = s;
-      juniors = t;
+      counts = struck-exact _ _ _ _ ready _ stands _ _ around _ _ _ _ _ (start .pre .1 .0) (row .before .load1283 .ensures) (row .load256 .ensures) (c .before .before .role-counts .ensures .1)
+          (c .before .taken .ensures .1) _ (c .corrected .ensures);
+      neighbours = around;
     }
 
 pub if-struck-spec : {M : Type 1} → statement M
 if-struck-spec =
     tie.close
     (tie.spec
-    shared-slice-read-c
-    sub-column
-    part-column-start
-    part-column-end
-    column-requires
     mul-load128
-    add-load128
     load128-requires
-    row-of-requires
-    handed-requires
+    mul-load128-2
+    add-load128
+    load128-requires-2
+    mul-load128-3
+    add-load128-2
+    load128-requires-3
+    mul-load256
+    add-load256
+    load256-requires
+    role-counts-requires
+    taken-requires
     corrected-requires
     returns)
