@@ -13,16 +13,14 @@ use Rattle.sets.specs.Sets.{has, _∪_, _∖_, single}
 use Rattle.sets.proofs.Truth.{by-test, eqb-iff, ltb-iff, if-true, if-false}
 use Rattle.sets.proofs.Order.{collect-iff, ∪-iff, single-iff, single-lt, has-with, with-without, ∪-lt, ∖-lt}
 use Rattle.model.specs.Lists.{setAt}
-use Rattle.model.specs.Hierarchy.{Roles, Rows, candidateCount, permissionSet, immediatelySenior, immediateJuniors, directPermissions, directMembers, building}
+use Rattle.model.specs.Hierarchy.{Roles, candidateCount, permissionSet, immediatelySenior, immediateJuniors, directPermissions, directMembers, building, RoleRows}
 use Rattle.model.specs.Record.{setsStart, permissionsStart, membersStart, juniorsStart, built, Limits}
 use Rattle.model.specs.State.{State, rolesOf, standingNow}
-use Rattle.model.specs.Altered.{Altered}
 use Rattle.model.proofs.Reading.{Ordered, immediate-iff, junior-iff}
 use Rattle.model.proofs.Building.{stands-below, senior-stands}
 use Rattle.model.proofs.Changes.{restored-ordered, juniors-same, permissions-same, members-same, members-kept}
 use Rattle.model.proofs.Record.{read-count, read-standing}
 use Rattle.model.proofs.Steps.{limits-ordered, limits-now}
-use Rattle.model.proofs.Altered.{strike-altered, restore-altered}
 use Rattle.stores.specs.Stores.{putAt}
 use Rattle.tables.specs.Stores.{wordsOf}
 use Rattle.tables.specs.Tables.{Holds}
@@ -137,8 +135,8 @@ Changed ws index seniors after seniors' R x y =
     → Ready (standingNow st R) after index seniors'
 
 pub changed : (R x y : ℕ) (ws index seniors first second seniors' third : List ℕ) → first ≡ putAt ws 4 (wordsOf 2 R)
-    → ((old : Rows) (st : State) (t : ℕ) → Target st R index → Partway old st x x t first → Linked first seniors → Partway old st 0 0 t second × Linked second seniors')
-    → ((old : Rows) (st : State) (p : ℕ) → Target st R index → Linked second seniors' → Partway old st 0 p y second → Partway old st 0 p 0 third × Linked third seniors')
+    → ((old : RoleRows) (st : State) (t : ℕ) → Target st R index → Partway old st x x t first → Linked first seniors → Partway old st 0 0 t second × Linked second seniors')
+    → ((old : RoleRows) (st : State) (p : ℕ) → Target st R index → Linked second seniors' → Partway old st 0 p y second → Partway old st 0 p 0 third × Linked third seniors')
     → Changed ws index seniors third seniors' R x y
 unfolding standingNow rolesOf
 changed R x y ws index seniors first second seniors' third ef uppers lowers st r b d =

@@ -18,8 +18,8 @@ use Rattle.model.proofs.Building.{stands-below, senior-lower, absent-juniors, a
 use Rattle.model.proofs.Changes.{struck-absent, juniors-same, permissions-same, members-same}
 use Rattle.model.proofs.Restoring.{links-counted, permissions-counted, members-counted}
 use Rattle.hierarchy.specs.Tables.{immediateSeniors}
-use Rattle.quality.specs.declared.quality.Counts.{Counts}
-use Rattle.quality.specs.Reading.{countsOf}
+use Rattle.quality.specs.declared.counts.Counts.{Counts}
+use Rattle.quality.specs.Numbers.{countsIn}
 use Rattle.edit_trials.specs.Trying.{over, roleCounts, countedIn, Within, Corrected}
 use Rattle.edit_trials.proofs.Sums.{came-losing, came-linked, over-within}
 
@@ -105,12 +105,12 @@ takenFrom ρ S k =
           (λ i. ones (immediateJuniors ρ (S ∖ single k) i ∩ immediateJuniors ρ S k));
     }
 
-module _ (ρ : Roles) (S k : ℕ) (q a : Counts) (eq : countsOf q ≡ model.counts ρ (S ∖ single k)) (ea : countsOf a ≡ takenFrom ρ S k) where
+module _ (ρ : Roles) (S k : ℕ) (q a : Counts) (eq : countsIn q ≡ model.counts ρ (S ∖ single k)) (ea : countsIn a ≡ takenFrom ρ S k) where
   -- the counts with k
-  pub came : Ordered ρ S → So (has S k) → (b r : Counts) → countsOf b ≡ countedIn ρ S k
+  pub came : Ordered ρ S → So (has S k) → (b r : Counts) → countsIn b ≡ countedIn ρ S k
       → Corrected q a b r
-      → countsOf r ≡ model.counts ρ S
-  unfolding countsOf model.counts model.counted building takenFrom countedIn roleCounts
+      → countsIn r ≡ model.counts ρ S
+  unfolding countsIn model.counts model.counted building takenFrom countedIn roleCounts
   came o here b r eb h =
       let roles = solve (r .roles) (a .roles) (q .roles) (b .roles) (ones S) 0 (ones (S ∖ single k)) 1 (h .roles) (ap (λ (x : model.Counts). x .roles) ea) (ap (λ (x : model.Counts). x .roles) eq) (ap (λ (x : model.Counts). x .roles) eb) (let e = roles-sum ρ S o k here in omega arith) in
       let members = solve (r .members) (a .members) (q .members) (b .members) _ _ _ _ (h .members) (ap (λ (x : model.Counts). x .members) ea) (ap (λ (x : model.Counts). x .members) eq) (ap (λ (x : model.Counts). x .members) eb) (members-sum ρ S o k here) in
@@ -120,7 +120,7 @@ module _ (ρ : Roles) (S k : ℕ) (q a : Counts) (eq : countsOf q ≡ model.coun
 
   -- a row loses no more than it has
   pub came-within : Within a q
-  unfolding countsOf model.counts model.counted building takenFrom
+  unfolding countsIn model.counts model.counted building takenFrom
   came-within =
       let c = candidateCount ρ in
       let R = S ∖ single k in
@@ -139,12 +139,12 @@ module _ (ρ : Roles) (S k : ℕ) (q a : Counts) (eq : countsOf q ≡ model.coun
       fewer x y = ones-subset (x ∩ y) x (∩-subset-left x y)
 
 -- the counts without k
-module _ (ρ : Roles) (S k : ℕ) (o : Ordered ρ S) (here : So (has S k)) (q b a : Counts) (eq : countsOf q ≡ model.counts ρ S) (eb : countsOf b ≡ countedIn ρ S k)
-    (ea : countsOf a ≡ takenFrom ρ S k) where
+module _ (ρ : Roles) (S k : ℕ) (o : Ordered ρ S) (here : So (has S k)) (q b a : Counts) (eq : countsIn q ≡ model.counts ρ S) (eb : countsIn b ≡ countedIn ρ S k)
+    (ea : countsIn a ≡ takenFrom ρ S k) where
   pub went : (r : Counts)
       → Corrected q b a r
-      → countsOf r ≡ model.counts ρ (S ∖ single k)
-  unfolding countsOf model.counts model.counted building takenFrom countedIn roleCounts
+      → countsIn r ≡ model.counts ρ (S ∖ single k)
+  unfolding countsIn model.counts model.counted building takenFrom countedIn roleCounts
   went r h =
       let roles = solve (r .roles) (b .roles) (q .roles) (a .roles) (ones (S ∖ single k)) 1 (ones S) 0 (h .roles) (ap (λ (x : model.Counts). x .roles) eb) (ap (λ (x : model.Counts). x .roles) eq) (ap (λ (x : model.Counts). x .roles) ea) (let e = roles-sum ρ S o k here in omega arith) in
       let members = solve (r .members) (b .members) (q .members) (a .members) _ _ _ _ (h .members) (ap (λ (x : model.Counts). x .members) eb) (ap (λ (x : model.Counts). x .members) eq) (ap (λ (x : model.Counts). x .members) ea) (sym (members-sum ρ S o k here)) in
@@ -154,7 +154,7 @@ module _ (ρ : Roles) (S k : ℕ) (o : Ordered ρ S) (here : So (has S k)) (q b 
 
   -- what k has is no more than what there is, since the rows without k lose to it no more than they have
   pub went-within : Within b q
-  unfolding countsOf model.counts model.counted building takenFrom countedIn roleCounts
+  unfolding countsIn model.counts model.counted building takenFrom countedIn roleCounts
   went-within =
       let c = candidateCount ρ in
       let R = S ∖ single k in

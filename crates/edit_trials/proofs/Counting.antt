@@ -24,8 +24,8 @@ use Rattle.hierarchy.specs.Tables.{lessAll}
 use Rattle.hierarchy.proofs.Sieving.{lessAll-iff}
 use Rattle.indexes.specs.Index.{lowerStart, usersStart}
 use Rattle.edit_rows.specs.Neighbours.{Neighbours}
-use Rattle.quality.specs.declared.quality.Counts.{Counts}
-use Rattle.quality.specs.Reading.{countsOf, Few}
+use Rattle.quality.specs.declared.counts.Counts.{Counts}
+use Rattle.quality.specs.Numbers.{countsIn, Few}
 use Rattle.edit_trials.specs.Trying.{over, shared, others, takenOver, roleCounts, countedIn, lostAt, takenAt}
 use Rattle.edit_trials.proofs.Sums.{over-none, over-more, over-same, over-zero}
 
@@ -95,13 +95,13 @@ module _ (w : ℕ) (table : List ℕ) (own : ℕ) where
 
 -- ---- the code's counts
 
-counts-are : (q : Counts) (m : model.Counts) → q .roles ≡ m .roles → q .members ≡ m .members → q .permissions ≡ m .permissions → q .links ≡ m .links → countsOf q ≡ m
-unfolding countsOf
+counts-are : (q : Counts) (m : model.Counts) → q .roles ≡ m .roles → q .members ≡ m .members → q .permissions ≡ m .permissions → q .links ≡ m .links → countsIn q ≡ m
+unfolding countsIn
 counts-are q m r u p l i = record { roles = r i; members = u i; permissions = p i; links = l i }
 
 pub lost-all : (q : Counts) (ws index : List ℕ) (k s t held own : ℕ) → held ≡ setAt 2 index (usersStart + 2 * k) → own ≡ setAt 4 ws (setsStart + 4 * k)
     → q .roles ≡ 0 → q .members ≡ shared 2 (take 256 (drop membersStart ws)) held t → q .permissions ≡ shared 4 (take 512 (drop permissionsStart ws)) own s
-    → q .links ≡ shared 2 (take 256 (drop juniorsStart ws)) t s → countsOf q ≡ lostAt ws index k s t
+    → q .links ≡ shared 2 (take 256 (drop juniorsStart ws)) t s → countsIn q ≡ lostAt ws index k s t
 unfolding lostAt
 lost-all q ws index k s t held own eh eo er em ep el =
     counts-are q (lostAt ws index k s t) er (em ∙ ap (λ (x : ℕ). shared 2 (take 256 (drop membersStart ws)) x t) eh)
@@ -110,13 +110,13 @@ lost-all q ws index k s t held own eh eo er em ep el =
 pub taken-counts : (q : Counts) (ws index seniors : List ℕ) (k s t us ps : ℕ) → us ≡ setAt 2 ws (membersStart + 2 * k) → ps ≡ setAt 4 ws (permissionsStart + 4 * k)
     → q .roles ≡ 0 → q .members ≡ takenOver 2 (take 256 (drop usersStart index)) us seniors k t
     → q .permissions ≡ takenOver 4 (take 512 (drop setsStart ws)) ps (take 256 (drop juniorsStart ws)) k s
-    → q .links ≡ takenOver 2 (take 256 (drop lowerStart index)) t (take 256 (drop juniorsStart ws)) k s → countsOf q ≡ takenAt ws index seniors k s t
+    → q .links ≡ takenOver 2 (take 256 (drop lowerStart index)) t (take 256 (drop juniorsStart ws)) k s → countsIn q ≡ takenAt ws index seniors k s t
 unfolding takenAt
 taken-counts q ws index seniors k s t us ps eu ep er em eq el =
     counts-are q (takenAt ws index seniors k s t) er (em ∙ ap (λ (x : ℕ). takenOver 2 (take 256 (drop usersStart index)) x seniors k t) eu)
     (eq ∙ ap (λ (x : ℕ). takenOver 4 (take 512 (drop setsStart ws)) x (take 256 (drop juniorsStart ws)) k s) ep) el
 
-pub role-all : (q : Counts) (us ps s t : ℕ) → q .roles ≡ 1 → q .members ≡ ones us → q .permissions ≡ ones ps → q .links ≡ ones t + ones s → countsOf q ≡ roleCounts us ps s t
+pub role-all : (q : Counts) (us ps s t : ℕ) → q .roles ≡ 1 → q .members ≡ ones us → q .permissions ≡ ones ps → q .links ≡ ones t + ones s → countsIn q ≡ roleCounts us ps s t
 unfolding roleCounts
 role-all q us ps s t er em ep el = counts-are q (roleCounts us ps s t) er em ep el
 
@@ -126,8 +126,8 @@ unfolding countedIn
 role-counted ρ S k us ps s t eu ep near = rw (eu, ep, near .seniors, near .juniors) refl
 
 -- exact counts are few
-pub exact-few : (st : State) → Limits st → (q : Counts) → countsOf q ≡ model.counts (rolesOf st) (st .standing) → Few q
-unfolding countsOf rolesOf
+pub exact-few : (st : State) → Limits st → (q : Counts) → countsIn q ≡ model.counts (rolesOf st) (st .standing) → Few q
+unfolding countsIn rolesOf
 exact-few st lim q e =
-    let s : Small (countsOf q) = rw e (counts-small (rolesOf st) (st .standing) (limits-ordered st lim) (lim .users-most) (lim .permissions-most) (lim .candidates-most)) in
+    let s : Small (countsIn q) = rw e (counts-small (rolesOf st) (st .standing) (limits-ordered st lim) (lim .users-most) (lim .permissions-most) (lim .candidates-most)) in
     record { roles = s .roles; members = s .members; permissions = s .permissions; links = let z = s .links in omega arith }

@@ -34,8 +34,8 @@ use Rattle.rows.specs.Linked.{Ready}
 use Rattle.rows.proofs.Linking.{seniors-told}
 use Rattle.edit_rows.specs.Neighbours.{Neighbours}
 use Rattle.edit_rows.proofs.Changing.{sets-read, seniors-read, juniors-read, members-read, permissions-read}
-use Rattle.quality.specs.declared.quality.Counts.{Counts}
-use Rattle.quality.specs.Reading.{countsOf, Few}
+use Rattle.quality.specs.declared.counts.Counts.{Counts}
+use Rattle.quality.specs.Numbers.{countsIn, Few}
 use Rattle.edit_trials.specs.Trying.{roleCounts, countedIn, others, takenOver, takenAt, Within, Corrected}
 use Rattle.edit_trials.proofs.Sums.{over-read}
 use Rattle.edit_trials.proofs.Striking.{permission-taken, link-taken, member-taken}
@@ -168,13 +168,13 @@ module _ (st : State) (ws index seniors : List ℕ) (ready : Ready st ws index s
         (λ i l x. ap (λ (y : ℕ). ones (lessAll 2 (take 256 (drop lowerStart index)) y (others (take 256 (drop juniorsStart ws)) k i))) (near .juniors) ∙ ap ones (links-row i l (seniors-in i x))) in
         λ i. record { roles = 0; members = members i; permissions = permissions i; links = links i }
 
-    module _ (q b a : Counts) (us ps : ℕ) (eq : countsOf q ≡ model.counts (rolesOf st) (st .standing)) (eu : us ≡ setAt 2 ws (membersStart + 2 * k))
-        (ep : ps ≡ setAt 4 ws (permissionsStart + 4 * k)) (eb : countsOf b ≡ roleCounts us ps s t) (ea : countsOf a ≡ takenAt ws index seniors k s t) where
-      had : countsOf b ≡ countedIn (rolesOf st) (st .standing) k
+    module _ (q b a : Counts) (us ps : ℕ) (eq : countsIn q ≡ model.counts (rolesOf st) (st .standing)) (eu : us ≡ setAt 2 ws (membersStart + 2 * k))
+        (ep : ps ≡ setAt 4 ws (permissionsStart + 4 * k)) (eb : countsIn b ≡ roleCounts us ps s t) (ea : countsIn a ≡ takenAt ws index seniors k s t) where
+      had : countsIn b ≡ countedIn (rolesOf st) (st .standing) k
       had = eb ∙ role-counted ρ Q k us ps s t (eu ∙ own-members) (ep ∙ own-permissions) near
 
       pub struck-within : Few q × Within b q
       struck-within = (exact-few st (ready .limits) q eq, went-within ρ Q k ordered stands q b a eq had (ea ∙ taken-read))
 
-      pub struck-exact : (r : Counts) → Corrected q b a r → countsOf r ≡ model.counts (rolesOf st) (st .standing ∖ single k)
+      pub struck-exact : (r : Counts) → Corrected q b a r → countsIn r ≡ model.counts (rolesOf st) (st .standing ∖ single k)
       struck-exact r h = went ρ Q k ordered stands q b a eq had (ea ∙ taken-read) r h

@@ -26,8 +26,8 @@ use Rattle.indexes.specs.Index.{usersStart, LowerRoles, RoleUsers}
 use Rattle.indexes.proofs.Sources.{numbered, narrow}
 use Rattle.edit_rows.specs.Neighbours.{Neighbours}
 use Rattle.edit_rows.proofs.Changing.{sets-read, juniors-read, members-read, permissions-read, put-standing, put-found}
-use Rattle.quality.specs.declared.quality.Counts.{Counts}
-use Rattle.quality.specs.Reading.{countsOf, Few}
+use Rattle.quality.specs.declared.counts.Counts.{Counts}
+use Rattle.quality.specs.Numbers.{countsIn, Few}
 use Rattle.edit_trials.specs.Trying.{shared, lostAt, countedIn, Within, Corrected, Restorable}
 use Rattle.edit_trials.proofs.Sums.{over-read}
 use Rattle.edit_trials.proofs.Coming.{takenFrom, came, came-within}
@@ -81,15 +81,15 @@ module _ (st : State) (ws index : List ℕ) (k : ℕ) (given : Restorable st ws 
         (λ i l x. row 2 juniorsStart 256 i (immediateJuniors ρ) _ _ refl (small i l) (juniors-read st (given .limits) ws (given .afresh) i (small i l)) (near .juniors)) in
         λ i. record { roles = 0; members = members i; permissions = permissions i; links = links i }
 
-    module _ (q a : Counts) (eq : countsOf q ≡ model.counts (rolesOf st) (st .standing)) (ea : countsOf a ≡ lostAt ws index k s t) where
-      without : countsOf q ≡ model.counts (rolesOf st) ((st .standing ∪ single k) ∖ single k)
+    module _ (q a : Counts) (eq : countsIn q ≡ model.counts (rolesOf st) (st .standing)) (ea : countsIn a ≡ lostAt ws index k s t) where
+      without : countsIn q ≡ model.counts (rolesOf st) ((st .standing ∪ single k) ∖ single k)
       without = eq ∙ ap (model.counts ρ) (sym back)
 
       pub tried-within : Few q × Within a q
       tried-within = (exact-few st (given .limits) q eq, came-within ρ S k q a without (ea ∙ lost-read))
 
-      pub tried-exact : (b r : Counts) → countsOf b ≡ countedIn (rolesOf st) (st .standing ∪ single k) k → Corrected q a b r
-          → countsOf r ≡ model.counts (rolesOf st) (st .standing ∪ single k)
+      pub tried-exact : (b r : Counts) → countsIn b ≡ countedIn (rolesOf st) (st .standing ∪ single k) k → Corrected q a b r
+          → countsIn r ≡ model.counts (rolesOf st) (st .standing ∪ single k)
       tried-exact b r eb h = came ρ S k q a without (ea ∙ lost-read) (restored-ordered ρ Q k (given .candidate) (limits-ordered st (given .limits))) (has-with Q k) b r eb h
 
   -- ---- the role's neighbours and what it brings, found for the standing set with it
@@ -106,8 +106,8 @@ module _ (st : State) (ws index : List ℕ) (k : ℕ) (given : Restorable st ws 
         record { seniors = found s immediateSeniors hs; juniors = found t immediateJuniors ht }
 
     pub tried-gained : (s t : ℕ) → Neighbours (rolesOf st) (st .standing ∪ single k) k s t → (b : Counts)
-        → ((ρ : Roles) → Numbered ρ → Narrow ρ → Holds 4 (candidateCount ρ) (permissionSet ρ) (take 512 (drop setsStart ws)) → RoleUsers ρ index → R < 2 ^ candidateCount ρ → Neighbours ρ R k s t → countsOf b ≡ countedIn ρ R k)
-        → countsOf b ≡ countedIn (rolesOf st) (st .standing ∪ single k) k
+        → ((ρ : Roles) → Numbered ρ → Narrow ρ → Holds 4 (candidateCount ρ) (permissionSet ρ) (take 512 (drop setsStart ws)) → RoleUsers ρ index → R < 2 ^ candidateCount ρ → Neighbours ρ R k s t → countsIn b ≡ countedIn ρ R k)
+        → countsIn b ≡ countedIn (rolesOf st) (st .standing ∪ single k) k
     tried-gained s t near b h =
         rw same at
         (h ρ (numbered st (given .limits)) (narrow st (given .limits)) (sets-read st (given .limits) ws (given .afresh)) (given .indexed .role-users) (rw same (∪-lt c Q (single k) (given .limits .standing-below) (single-lt c k (given .candidate)))) (rw same near))

@@ -17,11 +17,11 @@ use Rattle.model.proofs.Record.{state-back}
 use Rattle.model.proofs.Steps.{roles-now, standing-now, limits-now, now-now, now-same}
 use Rattle.rows.specs.Linked.{Ready}
 use Rattle.edit_rows.proofs.Changing.{count, few, standing-read}
-use Rattle.quality.specs.declared.quality.Counts.{Counts}
-use Rattle.quality.specs.Reading.{countsOf, weightsOf, Few}
+use Rattle.quality.specs.declared.counts.Counts.{Counts}
+use Rattle.quality.specs.Numbers.{countsIn, weightsOf, Few, weightsIn}
 use Rattle.edit_trials.specs.declared.progress.Progress.{Progress}
-use Rattle.edit_trials.specs.declared.progress.Weights.{Weights}
-use Rattle.edit_trials.specs.Trying.{Exact, Kin, Going, weightsIn}
+use Rattle.quality.specs.declared.weights.Weights.{Weights}
+use Rattle.edit_trials.specs.Trying.{Exact, Kin, Going}
 use Rattle.edit_trials.proofs.Counting.{exact-few}
 
 pub weights-in : (w : Weights) → weightsIn w ≡ weightsOf (w .role) (w .member) (w .permission) (w .link)
@@ -67,7 +67,7 @@ module _ (ws index seniors : List ℕ) (ready : Ready (stateOf ws) ws index seni
 
 -- and give the quality of the record's standing set
 pub weighed : (ws : List ℕ) (q : Counts) (w : Weights) (x : ℕ) → Exact ws q
-    → x ≡ model.weigh (weightsOf (w .role) (w .member) (w .permission) (w .link)) (countsOf q) → x ≡ model.quality (rolesOf (stateOf ws)) (weightsIn w) (stateOf ws .standing)
+    → x ≡ model.weigh (weightsOf (w .role) (w .member) (w .permission) (w .link)) (countsIn q) → x ≡ model.quality (rolesOf (stateOf ws)) (weightsIn w) (stateOf ws .standing)
 unfolding model.quality
 weighed ws q w x e ex = ex ∙ rw (weights-in w, e) refl
 
@@ -100,11 +100,11 @@ going-back ws index seniors after seniors' g r a e es ec = record { ready = rw (
 -- ---- a change that is weighed before it is written
 
 module _ (ws index seniors : List ℕ) (ready : Ready (stateOf ws) ws index seniors) (S : ℕ) (below : S < 2 ^ candidateCount (rolesOf (stateOf ws))) (q : Counts)
-    (e : countsOf q ≡ model.counts (rolesOf (stateOf ws)) S) where
+    (e : countsIn q ≡ model.counts (rolesOf (stateOf ws)) S) where
   pub trial-few : Few q
   trial-few = exact-few (standingNow (stateOf ws) S) (limits-now (stateOf ws) S (ready .limits) below) q (rw (roles-now (stateOf ws) S, standing-now (stateOf ws) S) e)
 
-  pub trial-weighed : (w : Weights) (x : ℕ) → x ≡ model.weigh (weightsOf (w .role) (w .member) (w .permission) (w .link)) (countsOf q)
+  pub trial-weighed : (w : Weights) (x : ℕ) → x ≡ model.weigh (weightsOf (w .role) (w .member) (w .permission) (w .link)) (countsIn q)
       → x ≡ model.quality (rolesOf (stateOf ws)) (weightsIn w) S
   unfolding model.quality
   trial-weighed w x ex = ex ∙ rw (weights-in w, e) refl
@@ -118,5 +118,5 @@ module _ (ws index seniors : List ℕ) (ready : Ready (stateOf ws) ws index seni
     trial-going r er =
         record {
           ready = ready-own (standingNow (stateOf ws) S) after index seniors' made;
-          exact = ap countsOf er ∙ rw (trial-state, roles-now (stateOf ws) S, standing-now (stateOf ws) S) e;
+          exact = ap countsIn er ∙ rw (trial-state, roles-now (stateOf ws) S, standing-now (stateOf ws) S) e;
         }

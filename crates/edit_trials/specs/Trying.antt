@@ -19,10 +19,9 @@ use Rattle.hierarchy.specs.Tables.{lessAll, immediateSeniors}
 use Rattle.indexes.specs.Index.{lowerStart, usersStart, Indexed}
 use Rattle.rows.specs.Linked.{Ready}
 use Rattle.edit_rows.specs.Neighbours.{Neighbours}
-use Rattle.quality.specs.declared.quality.Counts.{Counts}
-use Rattle.quality.specs.Reading.{countsOf}
+use Rattle.quality.specs.declared.counts.Counts.{Counts}
+use Rattle.quality.specs.Numbers.{countsIn}
 use Rattle.edit_trials.specs.declared.progress.Progress.{Progress}
-use Rattle.edit_trials.specs.declared.progress.Weights.{Weights}
 use Rattle.edit_trials.specs.declared.trial.Trial.{Trial}
 
 -- ---- sums over some of the roles
@@ -89,7 +88,7 @@ pub record Corrected (q before after r : Counts) : Type 0 where
 
 -- q are the counts of the building of a record's own state
 abbrev pub Exact : List ℕ → Counts → Type 0
-Exact ws q = countsOf q ≡ model.counts (rolesOf (stateOf ws)) (stateOf ws .standing)
+Exact ws q = countsIn q ≡ model.counts (rolesOf (stateOf ws)) (stateOf ws .standing)
 
 -- role k is an absent candidate of the record built afresh from a state, with its index
 pub record Restorable (st : State) (ws index : List ℕ) (k : ℕ) : Type 0 where
@@ -101,14 +100,10 @@ pub record Restorable (st : State) (ws index : List ℕ) (k : ℕ) : Type 0 wher
 
 -- a trial of role k: the counts of the building of `after`, and its neighbours in the building of `with`, in which it stands
 pub record Tried (ρ : Roles) (with after k : ℕ) (r : Trial) : Type 0 where
-  pub counts : countsOf (r .counts) ≡ model.counts ρ after
+  pub counts : countsIn (r .counts) ≡ model.counts ρ after
   pub neighbours : Neighbours ρ with k (set128 (r .above)) (set128 (r .below))
 
 -- ---- a run
-
--- the weights that the struct holds
-unfoldable pub weightsIn : Weights → model.Weights
-weightsIn w = record { perRole = w .role; perMember = w .member; perPermission = w .permission; perLink = w .link }
 
 -- the machine's run that a record, the progress and a worklist hold
 unfoldable pub runAt : List ℕ → Progress → ℕ → Run

@@ -1,7 +1,7 @@
 // Counts of one role, and counts corrected.
 ghost use mathlib.Core.Path.{_≡_};
 ghost use Rattle.sets.specs.Held.{set128, set256};
-ghost use Rattle.quality.specs.Reading.{countsOf, Few};
+ghost use Rattle.quality.specs.Numbers.{countsIn, Few};
 ghost use Rattle.edit_trials.specs.Trying.{roleCounts, Within, Corrected};
 use quality::Counts;
 use sets::Set128;
@@ -10,7 +10,7 @@ use sets::Set256;
 // A role with this row: itself, its direct members and permissions, and a link to each junior and from each senior.
 pub fn role_counts(members: Set128, permissions: Set256, above: Set128, below: Set128) -> Counts
     ensures { λ r. ⌜ Few r ⌝ }
-    ensures { λ r. ⌜ countsOf r ≡ roleCounts (set128 members) (set256 permissions) (set128 above) (set128 below) ⌝ }
+    ensures { λ r. ⌜ countsIn r ≡ roleCounts (set128 members) (set256 permissions) (set128 above) (set128 below) ⌝ }
 {
     let links = below.count() + above.count();
     Counts {

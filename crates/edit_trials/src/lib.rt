@@ -8,7 +8,6 @@ mod taken;
 mod trial;
 
 pub use progress::Progress;
-pub use progress::Weights;
 pub use restore::if_restored;
 pub use strike::if_struck;
 pub use trial::Trial;

@@ -5,7 +5,7 @@ ghost use lib.ListN.{length};
 ghost use Rattle.sets.specs.Held.{set128, set256};
 ghost use Rattle.model.specs.Record.{recordLength};
 ghost use Rattle.indexes.specs.Index.{indexLength};
-ghost use Rattle.quality.specs.Reading.{countsOf};
+ghost use Rattle.quality.specs.Numbers.{countsIn};
 ghost use Rattle.edit_trials.specs.Trying.{shared, lostAt};
 use hierarchy::lowest_item;
 use indexes::USERS;
@@ -56,7 +56,7 @@ pub fn lost(rec: &[u64], index: &[u64], k: usize, above: Set128, below: Set128) 
     requires { ⌜ length (now rec) ≡ recordLength ⌝ }
     requires { ⌜ length (now index) ≡ indexLength ⌝ }
     requires { ⌜ k < 128 ⌝ }
-    ensures { λ r. ⌜ countsOf r ≡ lostAt (now (rec .entry)) (now (index .entry)) k (set128 above) (set128 below) ⌝ }
+    ensures { λ r. ⌜ countsIn r ≡ lostAt (now (rec .entry)) (now (index .entry)) k (set128 above) (set128 below) ⌝ }
 {
     let users = load128(index, USERS + 2 * k);
     let own = load256(rec, SETS + 4 * k);

@@ -1,14 +1,6 @@
 // What an elimination or a review carries from one role to the next.
 use quality::Counts;
 
-// The four weights of a quality.
-pub struct Weights {
-    pub role: u64,
-    pub member: u64,
-    pub permission: u64,
-    pub link: u64,
-}
-
 // The counts of the record as it stands, the quality that the next trial is compared with, and how many roles were changed and examined.
 pub struct Progress {
     pub counts: Counts,

@@ -11,7 +11,7 @@ ghost use Rattle.tables.specs.Tables.{Holds};
 ghost use Rattle.hierarchy.specs.Tables.{Numbered, Narrow};
 ghost use Rattle.indexes.specs.Index.{indexLength, RoleUsers};
 ghost use Rattle.edit_rows.specs.Neighbours.{Neighbours};
-ghost use Rattle.quality.specs.Reading.{countsOf, Few};
+ghost use Rattle.quality.specs.Numbers.{countsIn, Few};
 ghost use Rattle.edit_trials.specs.Trying.{countedIn, Exact, Restorable, Tried};
 use crate::count::corrected;
 use crate::count::role_counts;
@@ -45,7 +45,7 @@ fn gained(
     requires { ⌜ length (now index) ≡ indexLength ⌝ }
     requires { ⌜ k < 128 ⌝ }
     ensures { λ r. ⌜ Few r ⌝ }
-    ensures { λ r. ⌜ ((ρ : Roles) → Numbered ρ → Narrow ρ → Holds 4 (candidateCount ρ) (permissionSet ρ) (take 512 (drop setsStart (now (rec .entry)))) → RoleUsers ρ (now (index .entry)) → set128 standing < 2 ^ candidateCount ρ → Neighbours ρ (set128 standing) k (set128 above) (set128 below) → countsOf r ≡ countedIn ρ (set128 standing) k) ⌝ }
+    ensures { λ r. ⌜ ((ρ : Roles) → Numbered ρ → Narrow ρ → Holds 4 (candidateCount ρ) (permissionSet ρ) (take 512 (drop setsStart (now (rec .entry)))) → RoleUsers ρ (now (index .entry)) → set128 standing < 2 ^ candidateCount ρ → Neighbours ρ (set128 standing) k (set128 above) (set128 below) → countsIn r ≡ countedIn ρ (set128 standing) k) ⌝ }
 {
     let members = members_of(&index[USERS..HOLDERS], above, standing, k);
     let permissions = permissions_of(&rec[SETS..PERMISSIONS], below, standing, k);

@@ -5,7 +5,7 @@ ghost use lib.ListN.{length};
 ghost use Rattle.sets.specs.Held.{set128, set256};
 ghost use Rattle.model.specs.Record.{recordLength};
 ghost use Rattle.indexes.specs.Index.{indexLength};
-ghost use Rattle.quality.specs.Reading.{countsOf, Few};
+ghost use Rattle.quality.specs.Numbers.{countsIn, Few};
 ghost use Rattle.edit_trials.specs.Trying.{takenOver, takenAt};
 use hierarchy::less128;
 use hierarchy::less256;
@@ -80,7 +80,7 @@ pub fn taken(
     requires { ⌜ length (now seniors) ≡ 256 ⌝ }
     requires { ⌜ k < 128 ⌝ }
     ensures { λ r. ⌜ Few r ⌝ }
-    ensures { λ r. ⌜ countsOf r ≡ takenAt (now (rec .entry)) (now (index .entry)) (now (seniors .entry)) k (set128 above) (set128 below) ⌝ }
+    ensures { λ r. ⌜ countsIn r ≡ takenAt (now (rec .entry)) (now (index .entry)) (now (seniors .entry)) k (set128 above) (set128 below) ⌝ }
 {
     let users = load128(rec, MEMBERS + 2 * k);
     let own = load256(rec, PERMISSIONS + 4 * k);
