@@ -19,3 +19,4 @@ pub mod Steps
 pub mod Claim
 pub mod Shortcuts
 pub mod Intervals
+pub mod Ends
