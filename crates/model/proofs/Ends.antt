@@ -91,18 +91,18 @@ first-of ρ p k h =
     let below : (j : ℕ) → So (held j) → j < c = λ j t. rolesOfPermission-iff ρ p j .0 t .0 in
     (first c held, firstHolder-iff ρ p (first c held) .1 (first-passes c held (any-of c held k (below k h) h) .1, λ j t. first-lowest c held j (below j t) t))
 
--- ---- what is asked of one user: with the user's roles and those of the first holders that count for the user, x is no more than the number of roles
--- of s among the user's roles that are up from any of these holders
+-- ---- what one user gives: x is at most the number of roles of s, among the user's roles, that are up from any of the first holders that count for
+-- the user
 
-abbrev pub Asked : (ℕ → ℕ) → ℕ → ℕ → ℕ → ℕ → Type 0
-Asked up s holders roles x = (g : ℕ) → So (has holders g) → x ≤ ones (roles ∩ s ∩ up g)
+abbrev pub AtMost : (ℕ → ℕ) → ℕ → ℕ → ℕ → ℕ → Type 0
+AtMost up s holders roles x = (g : ℕ) → So (has holders g) → x ≤ ones (roles ∩ s ∩ up g)
 
 -- a role's redundancy is asked of its users, and of each the first holders that are down from the role and within the user's granted row
 pub redundancy-ends : (st : State) → Limits st → (s k x : ℕ) → k < candidateCount (rolesOf st)
     → (x ≤ redundancy (rolesOf st) s k)
     ↔ ((x ≤ candidateCount (rolesOf st))
     × ((u : ℕ) → So (has (rolesOfUser (rolesOf st) u) k)
-    → Asked (upFrom (rolesOf st)) s (downFrom (rolesOf st) k ∩ firstHolders (rolesOf st) ∩ sureRoles (rolesOf st) u) (rolesOfUser (rolesOf st) u) x))
+    → AtMost (upFrom (rolesOf st)) s (downFrom (rolesOf st) k ∩ firstHolders (rolesOf st) ∩ sureRoles (rolesOf st) u) (rolesOfUser (rolesOf st) u) x))
 redundancy-ends st lim s k x lk =
     let ρ = rolesOf st in
     let same : (u p g : ℕ) → So (firstHolder ρ p g) → coverers ρ u p ∩ s ≡ rolesOfUser ρ u ∩ s ∩ upFrom ρ g =
@@ -153,7 +153,7 @@ nearer-holder ρ own x g j t h =
 
 -- a user with all roles of another, and no more holders that count, gives no smaller number
 pub nearer-user : (up : ℕ → ℕ) (s holders roles holders' roles' x : ℕ) → So (subset holders' holders) → So (subset roles roles')
-    → Asked up s holders roles x → Asked up s holders' roles' x
+    → AtMost up s holders roles x → AtMost up s holders' roles' x
 nearer-user up s holders roles holders' roles' x fewer more h g t =
     le-trans (h g (subset-iff holders' holders .0 fewer g t))
     (ones-subset (roles ∩ s ∩ up g) (roles' ∩ s ∩ up g)
