@@ -1,6 +1,6 @@
 -- The first holders, picked entry by entry; the roles down and up from each.
 -- Assumes nothing.
-use mathlib.Core.Path.{_≡_, sym, _∙_, ap}
+use mathlib.Core.Path.{_≡_, _∙_, ap}
 use mathlib.Core.Bool.{Bool, So}
 use mathlib.Core.Logic.{_↔_, _⊎_, ⊎-elim}
 use mathlib.Core.List.{List}

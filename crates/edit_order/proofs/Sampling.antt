@@ -2,7 +2,7 @@
 -- Assumes nothing.
 use mathlib.Core.Path.{_≡_, refl, sym, _∙_, ap}
 use mathlib.Core.Bool.{Bool, So}
-use mathlib.Core.Logic.{_↔_, _≢_, _⊎_, ⊎-elim}
+use mathlib.Core.Logic.{_↔_, _⊎_, ⊎-elim}
 use mathlib.Core.List.{List}
 use Prim.Native.Nat.{ℕ, _+_, _-_, _*_, _^_, _≤_, _<_}
 use native.Mathlib.Numerals.{add-one}
@@ -11,10 +11,10 @@ use lib.Count.{ones, ones-le}
 use lib.Dec.{eqb}
 use lib.ListN.{length}
 use Rattle.sets.specs.Truth.{isnt}
-use Rattle.sets.specs.Sets.{has, _∩_, _∪_, _∖_, single, subset, collect}
+use Rattle.sets.specs.Sets.{has, _∪_, _∖_, single, subset}
 use Rattle.sets.proofs.Truth.{by-test, So-not, either, equal-or, isnt-iff, eqb-iff}
 use Rattle.sets.proofs.Items.{has-zero, same-set, item-of, item-below}
-use Rattle.sets.proofs.Order.{∪-iff, ∖-iff, ∪-zero, ∪-lt, ∖-lt, single-iff, subset-iff, collect-iff, disjoint-iff}
+use Rattle.sets.proofs.Order.{∪-iff, ∖-iff, ∪-lt, single-iff, subset-iff, collect-iff, disjoint-iff}
 use Rattle.sets.proofs.Counts.{ones-disjoint, ones-without, ones-some}
 use Rattle.model.specs.Lists.{setAt}
 use Rattle.model.specs.Hierarchy.{Roles, candidateCount, authorisedUsers}
@@ -217,31 +217,42 @@ with-roles-iff ρ u =
           ),
     )
 
-pub meeting-all : (index : List ℕ) (c : ℕ) (table : List ℕ) (count met k : ℕ) → c ≤ 128 → k ≡ 0 → Meeting index c table count met k
-    → (count ≤ 128) × ((ρ : Roles) → candidateCount ρ ≡ c → Indexed ρ index → SamplesOf (usersWithRoles ρ) (rolesOfUser ρ) count (entries table))
-meeting-all index c table count met k few last inv = (
-  let a = inv .few in let b = ones-le 128 met (inv .small) in omega arith,
-  λ ρ e ix.
-      let users : (j : ℕ) → j < c → entry index usersStart j ≡ authorisedUsers ρ j =
-      λ j l. sym (setAt-part 2 usersStart 256 index (2 * j) (omega arith)) ∙ ix .role-users j (rw e l) in
-      let same : met ≡ usersWithRoles ρ =
-      same-set met (usersWithRoles ρ)
-      (λ u t.
-      let w = inv .holder u t in
-      with-roles-iff ρ u .1 (w .0, rolesOfUser-iff ρ u (w .0) .1 (rw e (w .1), rw (users (w .0) (w .1)) at (w .2))))
-      (λ u t.
-      let w = with-roles-iff ρ u .0 t in
-      let a = rolesOfUser-iff ρ u (w .0) .0 (w .1) in
-      let l : w .0 < c = rw e at (a .0) in
-      inv .done u (w .0) (omega arith) l (rw (users (w .0) l) (a .1))) in
-      let roles : (u : ℕ) → So (has met u) → entry index rolesStart u ≡ rolesOfUser ρ u =
-      λ u t.
-      let w = inv .holder u t in
-      let lu = user-iff ρ (w .0) u .0 (rw (users (w .0) (w .1)) at (w .2)) .0 in
-      let small = item-below 128 met u (inv .small) t in
-      sym (setAt-part 2 rolesStart 256 index (2 * u) (omega arith)) ∙ ix .user-roles u lu in
-      record {
-        user-of = λ i l. let w = inv .samples .user-of i l in (w .0, rw (sym same) (w .1), w .2 ∙ roles (w .0) (w .1));
-        sample-of = λ u t. let s : So (has met u) = rw same t in let w = inv .samples .sample-of u s in (w .0, w .1, w .2 ∙ roles u s);
-      },
-)
+-- all users are met that have a role
+module _ (index : List ℕ) (c : ℕ) (table : List ℕ) (count met k : ℕ) (few : c ≤ 128) (last : k ≡ 0) (inv : Meeting index c table count met k) where
+  module _ (ρ : Roles) (e : candidateCount ρ ≡ c) (ix : Indexed ρ index) where
+    users-read : (j : ℕ) → j < c → entry index usersStart j ≡ authorisedUsers ρ j
+    users-read j l = sym (setAt-part 2 usersStart 256 index (2 * j) (omega arith)) ∙ ix .role-users j (rw e l)
+
+    -- a user that is met is a user of some role
+    met-user : (u : ℕ) → So (has met u) → (j : ℕ) × (j < c) × So (has (authorisedUsers ρ j) u)
+    met-user u t = let w = inv .holder u t in (w .0, w .1, rw (users-read (w .0) (w .1)) at (w .2))
+
+    roles-read : (u : ℕ) → So (has met u) → entry index rolesStart u ≡ rolesOfUser ρ u
+    roles-read u t =
+        let w = met-user u t in
+        let small = item-below 128 met u (inv .small) t in
+        sym (setAt-part 2 rolesStart 256 index (2 * u) (omega arith)) ∙ ix .user-roles u (user-iff ρ (w .0) u .0 (w .2) .0)
+
+    met-users : met ≡ usersWithRoles ρ
+    met-users =
+        same-set met (usersWithRoles ρ)
+        (λ u t. let w = met-user u t in with-roles-iff ρ u .1 (w .0, rolesOfUser-iff ρ u (w .0) .1 (rw e (w .1), w .2)))
+        (λ u t.
+        let w = with-roles-iff ρ u .0 t in
+        let a = rolesOfUser-iff ρ u (w .0) .0 (w .1) in
+        let l : w .0 < c = rw e at (a .0) in
+        inv .done u (w .0) (omega arith) l (rw (users-read (w .0) l) (a .1)))
+
+    met-samples : SamplesOf met (rolesOfUser ρ) count (entries table)
+    met-samples =
+        record {
+          user-of = λ i l. let w = inv .samples .user-of i l in (w .0, w .1, w .2 ∙ roles-read (w .0) (w .1));
+          sample-of = λ u t. let w = inv .samples .sample-of u t in (w .0, w .1, w .2 ∙ roles-read u t);
+        }
+
+  pub meeting-all : (count ≤ 128)
+      × ((ρ : Roles) → candidateCount ρ ≡ c → Indexed ρ index → SamplesOf (usersWithRoles ρ) (rolesOfUser ρ) count (entries table))
+  meeting-all =
+      let a = inv .few in
+      let b = ones-le 128 met (inv .small) in
+      (omega arith, λ ρ e ix. rw (met-users ρ e ix) at (met-samples ρ e ix))

@@ -15,7 +15,6 @@ use Rattle.sets.specs.Sets.{has, _∪_, _∖_, single}
 use Rattle.sets.proofs.Truth.{either, equal-or, So-not, ltb-iff, if-true}
 use Rattle.sets.proofs.Items.{has-zero, item-below}
 use Rattle.sets.proofs.Order.{∪-iff, ∖-iff, single-iff}
-use Rattle.model.specs.Lists.{setAt}
 use Rattle.model.specs.Hierarchy.{Roles, candidateCount}
 use Rattle.model.specs.Machine.{redundancy}
 use Rattle.model.specs.Record.{Limits}

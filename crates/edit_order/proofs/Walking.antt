@@ -1,10 +1,10 @@
 -- The least over a walk that takes items out of a set, turn by turn; and that it is the redundancy.
 -- Assumes nothing.
 use mathlib.Core.Path.{_≡_, sym, _∙_, ap, ap₂}
-use mathlib.Core.Bool.{Bool, So}
+use mathlib.Core.Bool.{So}
 use mathlib.Core.Logic.{_↔_}
 use mathlib.Core.List.{List}
-use Prim.Native.Nat.{ℕ, _+_, _*_, _^_, _≤_, _<_}
+use Prim.Native.Nat.{ℕ, _^_, _≤_, _<_}
 use native.Mathlib.Nat.{le-refl, le-trans, lt-irrefl}
 use native.Mathlib.Omega.{arith}
 use lib.Count.{ones}
@@ -25,7 +25,7 @@ use Rattle.model.specs.Machine.{coverers, redundancy}
 use Rattle.model.specs.Record.{Limits}
 use Rattle.model.specs.State.{State, rolesOf}
 use Rattle.model.proofs.Ends.{AtMost, redundancy-iff, redundancy-ends, nearer-holder, nearer-user, sure-holders}
-use Rattle.model.proofs.Shortcuts.{downFrom-iff, upFrom-iff}
+use Rattle.model.proofs.Shortcuts.{downFrom-iff}
 use Rattle.edit_order.specs.Ranking.{LeastTo}
 use Rattle.edit_order.specs.Work.{workLength, downStart, upStart, samplesStart, holdingStart, furtherStart, firstStart, entry, holding, further, Prepared, PreparedFor}
 use Rattle.edit_order.proofs.Sampling.{with-roles-iff}
@@ -91,9 +91,9 @@ module _ (b s : ℕ) (P : ℕ → ℕ → Type 0) (m rest : ℕ) (inv : Left b s
 dropped-fewer : (s d i : ℕ) → So (has s i) → So (has d i) → ones (s ∖ d) < ones s
 dropped-fewer s d i h t = let a = ones-∖ s d in let b = ones-some (s ∩ d) i (∩-iff s d i .1 (h, t)) in omega arith
 
--- ---- one user: `own` are the roles counted that the user has
+-- ---- one sample: `own` are the roles counted that it has
 
-abbrev One : List ℕ → ℕ → ℕ → ℕ → Type 0
+abbrev pub One : List ℕ → ℕ → ℕ → ℕ → Type 0
 One ws own x g = x ≤ ones (own ∩ entry ws upStart g)
 
 pub record Asking (ws : List ℕ) (own b s m rest : ℕ) : Type 0 where
@@ -102,14 +102,21 @@ pub record Asking (ws : List ℕ) (own b s m rest : ℕ) : Type 0 where
 pub asking-start : (ws : List ℕ) (own b s : ℕ) → Asking ws own b s b s
 asking-start ws own b s = record { left = left-start b s (One ws own) }
 
-module _ (ws : List ℕ) (own b s m rest : ℕ) (given : (ρ : Roles) × Prepared ρ ws × (s < 2 ^ candidateCount ρ)) (inv : Asking ws own b s m rest) where
-  module _ (g up meet n m' : ℕ) (there : So (has rest g)) (eu : up ≡ entry ws upStart g) (em : meet ≡ own ∩ up) (en : n ≡ ones meet)
-      (e : m' ≡ (if ltb n m then n else m)) where
-    asked : (x : ℕ) → (x ≤ m') ↔ ((x ≤ m) × One ws own x g)
-    asked x = let d : n ≡ ones (own ∩ entry ws upStart g) = en ∙ ap ones (em ∙ ap (λ (y : ℕ). own ∩ y) eu) in rw d at (smaller-iff n m m' e x)
+-- the first holder g is asked: m' is the smaller of m and its number
+pub record Asked (ws : List ℕ) (own m rest g m' : ℕ) : Type 0 where
+  pub there : So (has rest g)
+  pub number : (x : ℕ) → (x ≤ m') ↔ ((x ≤ m) × One ws own x g)
 
+pub asked : (ws : List ℕ) (own m rest g up meet n m' : ℕ) → So (has rest g) → up ≡ entry ws upStart g → meet ≡ own ∩ up → n ≡ ones meet
+    → m' ≡ (if ltb n m then n else m) → Asked ws own m rest g m'
+asked ws own m rest g up meet n m' there eu em en e =
+    let d : n ≡ ones (own ∩ entry ws upStart g) = en ∙ ap ones (em ∙ ap (λ (y : ℕ). own ∩ y) eu) in
+    record { there = there; number = λ x. rw d at (smaller-iff n m m' e x) }
+
+module _ (ws : List ℕ) (own b s m rest : ℕ) (given : (ρ : Roles) × Prepared ρ ws × (s < 2 ^ candidateCount ρ)) (inv : Asking ws own b s m rest) where
+  module _ (g m' : ℕ) (a : Asked ws own m rest g m') where
     known : g < candidateCount (given .0)
-    known = item-below (candidateCount (given .0)) s g (given .2) (inv .left .within g there)
+    known = item-below (candidateCount (given .0)) s g (given .2) (inv .left .within g (a .there))
 
     pub asking-more : (d rest' : ℕ) → d ≡ entry ws downStart g → rest' ≡ rest ∖ d → Asking ws own b s m' rest'
     asking-more d rest' ed er =
@@ -117,7 +124,7 @@ module _ (ws : List ℕ) (own b s m rest : ℕ) (given : (ρ : Roles) × Prepare
         let P = given .1 in
         record {
           left =
-              left-more b s (One ws own) m rest (inv .left) g d m' rest' there asked
+              left-more b s (One ws own) m rest (inv .left) g d m' rest' (a .there) (a .number)
               (λ x j t l.
               let down = rw (ed ∙ P .down g known) at t in
               rw (P .up j (downFrom-iff ρ g j .0 down .0)) (nearer-holder ρ own x g j down (rw (P .up g known) at l))) er;
@@ -126,14 +133,14 @@ module _ (ws : List ℕ) (own b s m rest : ℕ) (given : (ρ : Roles) × Prepare
     pub asking-fewer : (d : ℕ) → d ≡ entry ws downStart g → ones (rest ∖ d) < ones rest
     asking-fewer d ed =
         let ρ = given .0 in
-        dropped-fewer rest d g there (rw (ed ∙ given .1 .down g known) (downFrom-iff ρ g g .1 (known, subset-refl (permissionSet ρ g))))
+        dropped-fewer rest d g (a .there) (rw (ed ∙ given .1 .down g known) (downFrom-iff ρ g g .1 (known, subset-refl (permissionSet ρ g))))
 
     -- the floor is met
     pub asking-stop : (floor : ℕ) → m' ≤ floor → LeastTo floor m' b s (λ g. ones (own ∩ entry ws upStart g))
     asking-stop floor l =
         record {
-          bound = le-trans (asked m' .0 (le-refl m') .0) (inv .left .bound);
-          above = λ x h f. left-above b s (One ws own) m rest (inv .left) g m' there (λ x y z. asked x .1 (y, z)) x h f;
+          bound = le-trans (a .number m' .0 (le-refl m') .0) (inv .left .bound);
+          above = λ x h f. left-above b s (One ws own) m rest (inv .left) g m' (a .there) (λ x y z. a .number x .1 (y, z)) x h f;
           least = λ y. absurd (lt-irrefl floor (omega arith));
         }
 
@@ -142,8 +149,9 @@ module _ (ws : List ℕ) (own b s m rest : ℕ) (given : (ρ : Roles) × Prepare
       let a = left-none b s (One ws own) m rest (inv .left) e in
       record { bound = inv .left .bound; above = λ x h f. a x .1 (h, f); least = λ y. a m .0 (le-refl m) .1 }
 
--- ---- all samples that hold a role: hs are the first holders down from it
+-- ---- all samples that hold a role
 
+-- x is at most what sample i gives, hs being the first holders down from the role
 abbrev Of : List ℕ → ℕ → ℕ → ℕ → ℕ → Type 0
 Of ws counted hs x i = AtMost (entry ws upStart) counted hs (entry ws samplesStart i) x
 
@@ -169,42 +177,50 @@ floor-under ρ s k floor lk e =
     ))
     (λ t. let none : floor ≡ 0 = e ∙ if-false (has s k) 1 0 t in omega arith)
 
--- what is known at the start
+-- what is known when the walk begins: hs are the first holders, and ss the samples, that are asked for role k
+pub record Begun (ws : List ℕ) (c k hs ss : ℕ) : Type 0 where
+  pub given : PreparedFor c ws
+  pub low : k < c
+  pub holders : hs ≡ entry ws downStart k ∩ setAt 2 ws firstStart
+  pub samples : ss ≡ entry ws holdingStart k
+
+-- all in the work
 pub in-work : (c k : ℕ) (ws : List ℕ) → PreparedFor c ws → k < c → (length ws ≡ workLength) × (k < 128)
 in-work c k ws given l = let n = given .1 in let f = given .2 .few in (given .2 .size, omega arith)
 
-pub holders-below : (c : ℕ) (ws : List ℕ) (given : PreparedFor c ws) (down first hs : ℕ) → first ≡ setAt 2 ws firstStart → hs ≡ down ∩ first
-    → (ρ : Roles) × Prepared ρ ws × (hs < 2 ^ candidateCount ρ)
-unfolding firstHolders
-holders-below c ws given down first hs ef eh =
-    let ρ = given .0 in
-    let e : first ≡ firstHolders ρ = ef ∙ given .2 .first in
-    (ρ, given .2, rw (eh, e) (∩-lt (candidateCount ρ) down (firstHolders ρ) (collect-lt (candidateCount ρ) _)))
-
-module _ (ws : List ℕ) (counted c k down first hs ss : ℕ) (lk : k < c) (ed : down ≡ entry ws downStart k) (ef : first ≡ setAt 2 ws firstStart)
-    (eh : hs ≡ down ∩ first) (es : ss ≡ entry ws holdingStart k) where
-  -- the samples that are asked, in the tables of roles
+module _ (ws : List ℕ) (c k hs ss : ℕ) (b : Begun ws c k hs ss) where
+  -- the samples and the first holders that are asked, in the tables of these roles
   module _ (ρ : Roles) (n : candidateCount ρ ≡ c) (P : Prepared ρ ws) where
+    role : k < candidateCount ρ
+    role = rw n (b .low)
+
     held : (i : ℕ) → So (has ss i) ↔ ((i < P .count) × So (has (P .found i) k))
     unfolding holding
-    held i = let e : ss ≡ collect (P .count) (λ i. has (P .found i) k) = es ∙ P .samples .held k (rw n lk) in rw e (collect-iff (P .count) (λ i. has (P .found i) k) i)
-
-    holders : hs ≡ downFrom ρ k ∩ firstHolders ρ
-    holders = eh ∙ ap₂ (λ (y z : ℕ). y ∩ z) (ed ∙ P .down k (rw n lk)) (ef ∙ P .first)
+    held i =
+        let e : ss ≡ collect (P .count) (λ i. has (P .found i) k) = b .samples ∙ P .samples .held k role in
+        rw e (collect-iff (P .count) (λ i. has (P .found i) k) i)
 
     roles : (i : ℕ) → So (has ss i) → entry ws samplesStart i ≡ P .found i
     roles i t = P .samples .roles i (held i .0 t .0)
 
+    holders : hs ≡ downFrom ρ k ∩ firstHolders ρ
+    holders = b .holders ∙ ap₂ (λ (y z : ℕ). y ∩ z) (P .down k role) (P .first)
+
+  pub holders-below : (ρ : Roles) × Prepared ρ ws × (hs < 2 ^ candidateCount ρ)
+  unfolding firstHolders
+  holders-below =
+      let ρ = b .given .0 in
+      (ρ, b .given .2, rw (holders ρ (b .given .1) (b .given .2)) (∩-lt (candidateCount ρ) (downFrom ρ k) (firstHolders ρ) (collect-lt (candidateCount ρ) _)))
+
   -- the numbers of the walk are those of the redundancy
-  walk-iff : (st : State) → Limits st → candidateCount (rolesOf st) ≡ c → Prepared (rolesOf st) ws → (x : ℕ)
+  walk-iff : (counted : ℕ) (st : State) → Limits st → candidateCount (rolesOf st) ≡ c → Prepared (rolesOf st) ws → (x : ℕ)
       → ((x ≤ c) × ((i : ℕ) → So (has ss i) → Of ws counted hs x i)) ↔ (x ≤ redundancy (rolesOf st) counted k)
-  walk-iff st lim n P x =
+  walk-iff counted st lim n P x =
       let ρ = rolesOf st in
-      let lc : k < candidateCount ρ = rw n lk in
       let up : (g : ℕ) → So (has hs g) → entry ws upStart g ≡ upFrom ρ g =
       λ g t. P .up g (downFrom-iff ρ k g .0 (∩-iff (downFrom ρ k) (firstHolders ρ) g .0 (rw (holders ρ n P) at t) .0) .0) in (
         λ w.
-            redundancy-ends st lim counted k x lc .1 (
+            redundancy-ends st lim counted k x (role ρ n P) .1 (
               rw n (w .0),
               λ u ku g t.
                   let s = P .samples .of-users .sample-of u (with-roles-iff ρ u .1 (k, ku)) in
@@ -214,7 +230,7 @@ module _ (ws : List ℕ) (counted c k down first hs ss : ℕ) (lk : k < c) (ed :
                   rw (e, up g tg) at (w .1 (s .0) there g tg),
             ),
         λ h.
-            let w = redundancy-ends st lim counted k x lc .0 h in (
+            let w = redundancy-ends st lim counted k x (role ρ n P) .0 h in (
               rw n at (w .0),
               λ i t g tg.
                   let a = held ρ n P i .0 t in
@@ -225,28 +241,25 @@ module _ (ws : List ℕ) (counted c k down first hs ss : ℕ) (lk : k < c) (ed :
             ),
       )
 
-  module _ (m rest : ℕ) (given : PreparedFor c ws) (inv : Walking ws hs counted c ss m rest) where
+  module _ (counted m rest : ℕ) (inv : Walking ws hs counted c ss m rest) where
     -- what the walk is for
     abbrev Found : ℕ → Type 0
     Found m =
         (m ≤ c) × ((st : State) → Limits st → candidateCount (rolesOf st) ≡ c → Prepared (rolesOf st) ws → m ≡ redundancy (rolesOf st) counted k)
 
-    module _ (i all own floor m' : ℕ) (there : So (has rest i)) (ea : all ≡ entry ws samplesStart i) (eo : own ≡ all ∩ counted)
-        (l : LeastTo floor m' m hs (λ g. ones (own ∩ entry ws upStart g))) where
-      told : LeastTo floor m' m hs (λ g. ones (entry ws samplesStart i ∩ counted ∩ entry ws upStart g))
-      told = let d : own ≡ entry ws samplesStart i ∩ counted = eo ∙ ap (λ (y : ℕ). y ∩ counted) ea in rw d at l
-
+    module _ (i floor m' : ℕ) (there : So (has rest i))
+        (told : LeastTo floor m' m hs (λ g. ones (entry ws samplesStart i ∩ counted ∩ entry ws upStart g))) where
       asked-for : So (has ss i)
       asked-for = inv .left .within i there
 
       -- those further up than sample i
-      beyond : (d : ℕ) → d ≡ entry ws furtherStart i → d ≡ further (given .2 .count) (given .2 .found) i
-      beyond d e1 = e1 ∙ given .2 .beyond i (held (given .0) (given .1) (given .2) i .0 asked-for .0)
+      beyond : (d : ℕ) → d ≡ entry ws furtherStart i → d ≡ further (b .given .2 .count) (b .given .2 .found) i
+      beyond d e = e ∙ b .given .2 .beyond i (held (b .given .0) (b .given .1) (b .given .2) i .0 asked-for .0)
 
       pub walking-more : (d rest' : ℕ) → floor < m' → d ≡ entry ws furtherStart i → rest' ≡ rest ∖ d → Walking ws hs counted c ss m' rest'
       unfolding further
       walking-more d rest' more e1 e2 =
-          let P = given .2 in
+          let P = b .given .2 in
           record {
             left =
                 left-more c ss (Of ws counted hs) m rest (inv .left) i d m' rest' there
@@ -254,17 +267,17 @@ module _ (ws : List ℕ) (counted c k down first hs ss : ℕ) (lk : k < c) (ed :
                 (λ x j t h.
                 let a = collect-iff (P .count) (λ j. subset (P .found i) (P .found j)) j .0 (rw (beyond d e1) at t) in
                 nearer-user (entry ws upStart) counted hs (entry ws samplesStart i) hs (entry ws samplesStart j) x (subset-refl hs)
-                (rw (roles (given .0) (given .1) P i asked-for, P .samples .roles j (a .0)) (a .1)) h) e2;
+                (rw (roles (b .given .0) (b .given .1) P i asked-for, P .samples .roles j (a .0)) (a .1)) h) e2;
           }
 
       pub walking-fewer : (d : ℕ) → d ≡ entry ws furtherStart i → ones (rest ∖ d) < ones rest
       unfolding further
-      walking-fewer d e1 =
-          let P = given .2 in
+      walking-fewer d e =
+          let P = b .given .2 in
           dropped-fewer rest d i there
-          (rw (beyond d e1)
+          (rw (beyond d e)
           (collect-iff (P .count) (λ j. subset (P .found i) (P .found j)) i .1
-          (held (given .0) (given .1) P i .0 asked-for .0, subset-refl (P .found i))))
+          (held (b .given .0) (b .given .1) P i .0 asked-for .0, subset-refl (P .found i))))
 
       -- the floor is met: the redundancy is no more than what is found, and no less than the floor
       pub walking-stop : floor ≡ (if has counted k then 1 else 0) → m' ≤ floor → Found m'
@@ -272,9 +285,9 @@ module _ (ws : List ℕ) (counted c k down first hs ss : ℕ) (lk : k < c) (ed :
         le-trans (told .bound) (inv .left .bound),
         λ st lim n P.
             let q = redundancy (rolesOf st) counted k in
-            let w = walk-iff st lim n P q .1 (le-refl q) in
+            let w = walk-iff counted st lim n P q .1 (le-refl q) in
             let top = left-above c ss (Of ws counted hs) m rest (inv .left) i m' there (λ x y z. told .above x y z) q (w .0) (w .1) in
-            let low = floor-under (rolesOf st) counted k floor (rw n lk) e in
+            let low = floor-under (rolesOf st) counted k floor (role (rolesOf st) n P) e in
             omega arith,
       )
 
@@ -285,6 +298,6 @@ module _ (ws : List ℕ) (counted c k down first hs ss : ℕ) (lk : k < c) (ed :
           same-number m (redundancy (rolesOf st) counted k)
           (λ x.
           let z = left-none c ss (Of ws counted hs) m rest (inv .left) e x in
-          let w = walk-iff st lim n P x in
+          let w = walk-iff counted st lim n P x in
           (λ h. w .0 (z .0 h), λ h. z .1 (w .1 h))),
     )

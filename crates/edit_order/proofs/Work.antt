@@ -4,15 +4,15 @@ use mathlib.Core.Path.{_≡_, sym, _∙_, ap}
 use mathlib.Core.List.{List, _++_}
 use Prim.Native.Nat.{ℕ, _+_, _*_, _^_, _≤_, _<_}
 use native.Mathlib.Omega.{arith}
-use lib.ListN.{length, getD, take, drop}
-use lib.Seq.{ext-getD, length-take-le, getD-take}
+use lib.ListN.{length, getD, take, drop, length-drop}
+use lib.Seq.{ext-getD, length-take-le, getD-take, getD-drop}
 use Rattle.sets.specs.Sets.{has, collect}
 use Rattle.model.specs.Lists.{setAt}
 use Rattle.model.specs.Hierarchy.{Roles, candidateCount}
 use Rattle.model.specs.Indexes.{rolesOfUser, downFrom, upFrom, firstHolders}
 use Rattle.model.proofs.Lists.{setAt-same}
 use Rattle.stores.specs.Stores.{putAt}
-use Rattle.stores.proofs.Stores.{length-putAt, putAt-below, putAt-in, part-back}
+use Rattle.stores.proofs.Stores.{length-putAt, putAt-below, putAt-above, putAt-in, part-back}
 use Rattle.tables.specs.Stores.{wordsOf}
 use Rattle.tables.specs.Tables.{Holds}
 use Rattle.tables.proofs.Stores.{stored-back}
@@ -70,6 +70,30 @@ prepared-same ρ xs ys size same p =
       beyond = holds-same 256 1538 xs ys same 1280 _ _ (omega arith) (omega arith) (p .beyond);
       first = set-same 256 1538 xs ys same 1536 (omega arith) (omega arith) ∙ p .first;
     }
+
+-- ---- another first region: the seniors after an edit
+
+module _ (ws seniors : List ℕ) (size : length ws ≡ workLength) (first : length seniors ≡ downStart) where
+  seniors-length : length (putAt ws 0 seniors) ≡ workLength
+  seniors-length = length-putAt ws 0 seniors ∙ size
+
+  seniors-beside : Unchanged downStart workLength ws (putAt ws 0 seniors)
+  seniors-beside i from to = putAt-above ws 0 seniors i (omega arith)
+
+  pub seniors-prepared : (ρ : Roles) → Prepared ρ ws → Prepared ρ (putAt ws 0 seniors)
+  seniors-prepared ρ p = prepared-same ρ ws (putAt ws 0 seniors) seniors-length (λ i from to. seniors-beside i from (omega arith)) p
+
+  pub seniors-ranks : take 258 (drop ranksStart (putAt ws 0 seniors)) ≡ take 258 (drop ranksStart ws)
+  seniors-ranks =
+      let n : length (take 258 (drop ranksStart ws)) ≡ 258 = length-take-le 258 (drop ranksStart ws) (simp length-drop (omega arith)) in
+      let m : length (take 258 (drop ranksStart (putAt ws 0 seniors))) ≡ 258 =
+      length-take-le 258 (drop ranksStart (putAt ws 0 seniors)) (let l = seniors-length in simp length-drop (omega arith)) in
+      ext-getD 0 (take 258 (drop ranksStart (putAt ws 0 seniors))) (take 258 (drop ranksStart ws)) (m ∙ sym n)
+      (λ i h.
+      let b : i < 258 = rw m at h in
+      getD-take 258 (drop ranksStart (putAt ws 0 seniors)) i 0 b ∙ getD-drop ranksStart (putAt ws 0 seniors) i 0
+      ∙ seniors-beside (ranksStart + i) (omega arith) (omega arith)
+      ∙ sym (getD-take 258 (drop ranksStart ws) i 0 b ∙ getD-drop ranksStart ws i 0))
 
 -- ---- a table placed in two regions
 

@@ -11,7 +11,7 @@ ghost use Rattle.model.specs.Machine.{redundancy};
 ghost use Rattle.model.specs.Record.{Limits};
 ghost use Rattle.model.specs.State.{State, rolesOf};
 ghost use Rattle.edit_order.specs.Ranking.{LeastTo};
-ghost use Rattle.edit_order.specs.Work.{upStart, entry, Prepared, PreparedFor};
+ghost use Rattle.edit_order.specs.Work.{upStart, samplesStart, entry, Prepared, PreparedFor};
 use crate::layout::DOWN;
 use crate::layout::FIRST;
 use crate::layout::FURTHER;
@@ -41,12 +41,21 @@ fn floor_of(counted: Set128, k: usize) -> usize
     0
 }
 
-// One user's part: the least of `bound` and, over these first holders, of how many roles of `own` are up from the holder. Those down from one that
-// was asked have no fewer up from them, so they are not asked. The walk stops at the floor.
-fn least_above(work: &[u64], own: Set128, holders: Set128, bound: usize, floor: usize) -> usize
+// One sample's part: the least of `bound` and, over these first holders, of how many counted roles of the sample are up from the holder. Those down
+// from one that was asked have no fewer up from them, so they are not asked. The walk stops at the floor.
+fn least_of(
+    work: &[u64],
+    i: usize,
+    counted: Set128,
+    holders: Set128,
+    bound: usize,
+    floor: usize,
+) -> usize
+    requires { ⌜ i < 128 ⌝ }
     requires { ⌜ ((ρ : Roles) × Prepared ρ (now work) × (set128 holders < 2 ^ candidateCount ρ)) ⌝ }
-    ensures { λ r. ⌜ LeastTo floor r bound (set128 holders) (λ g. ones (set128 own ∩ entry (now (work .entry)) upStart g)) ⌝ }
+    ensures { λ r. ⌜ LeastTo floor r bound (set128 holders) (λ g. ones (entry (now (work .entry)) samplesStart i ∩ set128 counted ∩ entry (now (work .entry)) upStart g)) ⌝ }
 {
+    let own = load128(work, SAMPLES + 2 * i).intersection(counted);
     let mut least = bound;
     let mut rest = holders;
     while !rest.is_empty() {
@@ -75,8 +84,7 @@ pub fn redundancy(work: &[u64], c: usize, counted: Set128, k: usize) -> usize
     let mut samples = load128(work, HOLDING + 2 * k);
     while !samples.is_empty() {
         let i = highest_item(samples);
-        let own = load128(work, SAMPLES + 2 * i).intersection(counted);
-        least = least_above(work, own, holders, least, floor);
+        least = least_of(work, i, counted, holders, least, floor);
         if least <= floor {
             return least;
         }

@@ -5,7 +5,6 @@ ghost use lib.Count.{ones};
 ghost use lib.ListN.{length};
 ghost use Rattle.sets.specs.Held.{set128};
 ghost use Rattle.sets.specs.Sets.{_∪_, single};
-ghost use Rattle.model.specs.Lists.{setAt};
 ghost use Rattle.model.specs.Hierarchy.{Roles, candidateCount};
 ghost use Rattle.model.specs.Indexes.{rolesOfUser};
 ghost use Rattle.indexes.specs.Index.{indexLength, rolesStart, Indexed};

@@ -47,9 +47,14 @@ loop-less c = search needs
 
 loop-again : tie.Need-loop-again Inv-loop μ-loop
 loop-again c =
-    let small : set128 (c .before .before .before .insert .result) < 2 ^ 128 = search (words, held128) in
-    let room = c .before .before .before .before .before .before .before .loop .inv in
-    (search needs, omega arith, rw (c .before .before .store128 .ensures) (filled-more 2 _ _ _ (c .before .before .before .before .before .before .before .before .before .before .args .down .now) (c .before .before .before .before .before .before .before .loop .down) (room .2) (omega arith) small (put-self _ _ _ _ (omega arith) (c .before .before .before .before .load128 .ensures) (c .before .before .before .insert .ensures))))
+    let put = c .before .before .before in
+    let turn = put .before .before .before in
+    let small : set128 (put .insert .result) < 2 ^ 128 = search (words, held128) in (
+      search needs,
+      omega arith,
+      rw (c .before .before .store128 .ensures)
+          (filled-more 2 _ _ _ (turn .before .before .before .before .args .down .now) (turn .before .loop .down) (turn .before .loop .inv .2) (omega arith) small (put-self _ _ _ _ (omega arith) (put .before .load128 .ensures) (put .insert .ensures))),
+    )
 
 same-length : tie.Need-same-length Inv-loop μ-loop
 same-length c = omega arith

@@ -2,7 +2,6 @@
 -- Assumes nothing.
 use borrow.Author.Needs.{needs}
 use Prim.Native.Nat.{_^_, _<_}
-use native.Mathlib.Omega.{arith}
 use Rattle.sets.specs.Held.{set128}
 use Rattle.sets.proofs.Written.{words, held128}
 use Rattle.edit_order.proofs.Sampling.{sample-again, sample-more}
