@@ -1,4 +1,8 @@
 pub mod Leading
 pub mod Gathering
-pub mod Ranking
-pub mod Facts
+pub mod Work
+pub mod Reaching
+pub mod Sampling
+pub mod Narrowing
+pub mod Walking
+pub mod Sorting

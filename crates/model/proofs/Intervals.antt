@@ -1,4 +1,5 @@
--- The roles that cover a grant are the candidates between two: the first that holds the permission, and the one that is the person's row.
+-- Candidates and crew rows: the first holder of a permission lies within all its holders, and within the row of each user that is granted it; a
+-- candidate is the intersection of the rows that contain it.
 -- Assumes nothing.
 use mathlib.Core.Path.{_≡_, sym, _∙_}
 use mathlib.Core.Bool.{So}
@@ -8,17 +9,18 @@ use native.Mathlib.Omega.{arith}
 use lib.ListN.{length, getD}
 use Rattle.sets.specs.Sets.{has, _∩_, subset}
 use Rattle.sets.proofs.Truth.{So-not, equal-or}
-use Rattle.sets.proofs.Items.{has-zero, item-below, empty-of}
-use Rattle.sets.proofs.Order.{∩-iff, ∩-subset-left, ∩-subset-right, subset-iff, subset-refl, proper-iff}
+use Rattle.sets.proofs.Items.{has-zero, item-below, same-set}
+use Rattle.sets.proofs.Order.{∩-iff, ∩-subset-left, ∩-subset-right, subset-iff, proper-iff}
 use Rattle.model.specs.Candidates.{candidates}
 use Rattle.model.specs.Hierarchy.{candidateCount, permissionSet, authorisedUsers}
-use Rattle.model.specs.Indexes.{rolesOfUser, rolesOfPermission}
+use Rattle.model.specs.Coverage.{grant}
+use Rattle.model.specs.Indexes.{rolesOfPermission, sureRoles, upFrom, firstHolder}
 use Rattle.model.specs.State.{State, rolesOf}
 use Rattle.model.proofs.Growing.{listed-at}
 use Rattle.model.proofs.Candidates.{candidates-table, proper-lower, row-candidate, candidate-iff, candidate-within}
 use Rattle.model.proofs.Reading.{user-iff}
 use Rattle.model.specs.Record.{Limits}
-use Rattle.model.proofs.Shortcuts.{rolesOfUser-iff, rolesOfPermission-iff}
+use Rattle.model.proofs.Shortcuts.{rolesOfPermission-iff, sureRoles-iff, upFrom-iff, firstHolder-iff}
 
 -- of a candidate and one that lies within it, the number of the latter is lower, or they are the same set
 lower-or-same : (st : State) (j k : ℕ) → j < candidateCount (rolesOf st) → k < candidateCount (rolesOf st)
@@ -42,63 +44,41 @@ meet-role st j k p lj lk hj hk =
     let w = candidates-table (st .rows) .closed a b (listed-at xs j lj) (listed-at xs k lk) some in
     (w .place, w .below, w .there)
 
--- the roles that hold a permission are the first of them and all whose set contains its set
-pub first-holder : (st : State) (p g : ℕ) → So (has (rolesOfPermission (rolesOf st) p) g)
-    → ((j : ℕ) → So (has (rolesOfPermission (rolesOf st) p) j) → g ≤ j)
-    → (k : ℕ) → So (has (rolesOfPermission (rolesOf st) p) k)
-    ↔ ((k < candidateCount (rolesOf st)) × So (subset (permissionSet (rolesOf st) g) (permissionSet (rolesOf st) k)))
-first-holder st p g there least k =
+-- the roles that hold a permission are those whose set contains that of the first holder
+pub first-up : (st : State) (p g : ℕ) → So (firstHolder (rolesOf st) p g) → rolesOfPermission (rolesOf st) p ≡ upFrom (rolesOf st) g
+first-up st p g first =
     let ρ = rolesOf st in
-    let h = rolesOfPermission-iff ρ p g .0 there in (
-      λ t.
-          let a = rolesOfPermission-iff ρ p k .0 t in
-          let w = meet-role st g k p (h .0) (a .0) (h .1) (a .1) in
-          let x = permissionSet ρ g ∩ permissionSet ρ k in
-          let holds : So (has (rolesOfPermission ρ p) (w .0)) = rolesOfPermission-iff ρ p (w .0) .1 (w .1, rw (w .2) (∩-iff (permissionSet ρ g) (permissionSet ρ k) p .1 (h .1, a .1))) in
-          let same : x ≡ permissionSet ρ g = sym (w .2) ∙ lower-or-same st (w .0) g (w .1) (h .0) (rw (w .2) (∩-subset-left (permissionSet ρ g) (permissionSet ρ k))) (least (w .0) holds) in
-          (a .0, rw same at (∩-subset-right (permissionSet ρ g) (permissionSet ρ k))),
-      λ f. rolesOfPermission-iff ρ p k .1 (f .0, subset-iff (permissionSet ρ g) (permissionSet ρ k) .0 (f .1) p (h .1)),
-    )
+    let S = permissionSet ρ in
+    let f = firstHolder-iff ρ p g .0 first in
+    let h = rolesOfPermission-iff ρ p g .0 (f .0) in
+    same-set (rolesOfPermission ρ p) (upFrom ρ g)
+    (λ k t.
+    let a = rolesOfPermission-iff ρ p k .0 t in
+    let w = meet-role st g k p (h .0) (a .0) (h .1) (a .1) in
+    let holds : So (has (rolesOfPermission ρ p) (w .0)) = rolesOfPermission-iff ρ p (w .0) .1 (w .1, rw (w .2) (∩-iff (S g) (S k) p .1 (h .1, a .1))) in
+    let same : S g ∩ S k ≡ S g = sym (w .2) ∙ lower-or-same st (w .0) g (w .1) (h .0) (rw (w .2) (∩-subset-left (S g) (S k))) (f .1 (w .0) holds) in
+    upFrom-iff ρ g k .1 (a .0, rw same at (∩-subset-right (S g) (S k))))
+    (λ k t. let a = upFrom-iff ρ g k .0 t in rolesOfPermission-iff ρ p k .1 (a .0, subset-iff (S g) (S k) .0 (a .1) p (h .1)))
 
--- a person's row that contains a candidate is a candidate itself
-row-role : (st : State) → Limits st → (u e : ℕ) → e < candidateCount (rolesOf st) → u < rolesOf st .users
-    → So (subset (permissionSet (rolesOf st) e) (getD (rolesOf st .possible) u 0))
-    → (i : ℕ) × (i < candidateCount (rolesOf st)) × (permissionSet (rolesOf st) i ≡ getD (rolesOf st .possible) u 0)
-unfolding candidateCount permissionSet rolesOf
-row-role st lim u e le lu within =
-    let xs = candidates (st .rows) in
+-- a user is granted a permission exactly where its first holder lies within the user's granted row
+pub first-granted : (st : State) → Limits st → (u p g : ℕ) → u < rolesOf st .users → So (firstHolder (rolesOf st) p g)
+    → So (grant (rolesOf st) u p) ↔ So (has (sureRoles (rolesOf st) u) g)
+unfolding candidateCount permissionSet rolesOf grant
+first-granted st lim u p g lu first =
+    let ρ = rolesOf st in
     let row = getD (st .rows) u 0 in
-    let x = getD xs e 0 in
-    let few : u < length (st .rows) = rw (lim .rows-count) lu in
-    let some : row ≢ 0 = λ (z : row ≡ 0). candidates-table (st .rows) .nonempty x (listed-at xs e le) (empty-of x (λ p t. So-not (has-zero p) (rw z at (subset-iff x row .0 within p t)))) in
-    let w = row-candidate (st .rows) u few some in
-    (w .place, w .below, w .there)
-
-own-set : (st : State) → Limits st → (u e : ℕ) → e < candidateCount (rolesOf st) → u < rolesOf st .users
-    → So (subset (permissionSet (rolesOf st) e) (getD (rolesOf st .possible) u 0))
-    → ((j : ℕ) → So (has (rolesOfUser (rolesOf st) u) j) → j ≤ e) → permissionSet (rolesOf st) e ≡ getD (rolesOf st .possible) u 0
-own-set st lim u e le lu within most =
-    let w = row-role st lim u e le lu within in
-    let ρ = rolesOf st in
-    let row = getD (ρ .possible) u 0 in
-    let listed : So (has (rolesOfUser ρ u) (w .0)) = rolesOfUser-iff ρ u (w .0) .1 (w .1, user-iff ρ (w .0) u .1 (lu, rw (w .2) (subset-refl row))) in
-    lower-or-same st e (w .0) le (w .1) (rw (w .2) within) (most (w .0) listed) ∙ w .2
-
--- the roles of a person are the last of them, which is the person's row, and all that lie within it
-pub last-role : (st : State) → Limits st → (u e : ℕ) → So (has (rolesOfUser (rolesOf st) u) e)
-    → ((j : ℕ) → So (has (rolesOfUser (rolesOf st) u) j) → j ≤ e)
-    → (k : ℕ) → So (has (rolesOfUser (rolesOf st) u) k)
-    ↔ ((k < candidateCount (rolesOf st)) × So (subset (permissionSet (rolesOf st) k) (permissionSet (rolesOf st) e)))
-last-role st lim u e there most k =
-    let ρ = rolesOf st in
-    let h = rolesOfUser-iff ρ u e .0 there in
-    let v = user-iff ρ e u .0 (h .1) in
-    let same = own-set st lim u e (h .0) (v .0) (v .1) most in (
-      λ t. let a = rolesOfUser-iff ρ u k .0 t in (a .0, rw same (user-iff ρ k u .0 (a .1) .1)),
-      λ f. rolesOfUser-iff ρ u k .1 (f .0, user-iff ρ k u .1 (v .0, rw same at (f .1))),
+    let h = rolesOfPermission-iff ρ p g .0 (firstHolder-iff ρ p g .0 first .0) in (
+      λ t.
+          let few : u < length (st .rows) = rw (lim .rows-count) lu in
+          let some : row ≢ 0 = λ (z : row ≡ 0). So-not (has-zero p) (rw z at t) in
+          let w = row-candidate (st .rows) u few some in
+          let e : permissionSet ρ (w .place) ≡ row = w .there in
+          let x = rw (first-up st p g first) at (rolesOfPermission-iff ρ p (w .place) .1 (w .below, rw e t)) in
+          sureRoles-iff ρ u g .1 (h .0, rw e at (upFrom-iff ρ g (w .place) .0 x .1)),
+      λ t. subset-iff (permissionSet ρ g) row .0 (sureRoles-iff ρ u g .0 t .1) p (h .1),
     )
 
--- a candidate is the intersection of the rows that contain it: another one that every such person holds lies within it. One person for each row
+-- a candidate is the intersection of the rows that contain it: another one that every such user holds lies within it. One user for each row
 -- is enough
 pub shared-lower : (st : State) → Limits st → (k : ℕ) → k < candidateCount (rolesOf st) → (us : ℕ)
     → ((u : ℕ) → So (has (authorisedUsers (rolesOf st) k) u) → (v : ℕ) × So (has us v) × (getD (st .rows) v 0 ≡ getD (st .rows) u 0) × (v < st .users))
@@ -122,7 +102,7 @@ shared-lower st lim k lk us speaks j lj all =
     let holds : So (subset a (getD (st .rows) (w .0) 0)) = all (w .0) (w .3) (w .1) (rw same within) in
     rw same at (subset-iff a (getD (st .rows) (w .0) 0) .0 holds p h)))
 
--- and there is such a person
+-- and there is such a user
 pub someone : (st : State) → Limits st → (k : ℕ) → k < candidateCount (rolesOf st) → (u : ℕ) × So (has (authorisedUsers (rolesOf st) k) u)
 unfolding candidateCount permissionSet rolesOf
 someone st lim k lk =

@@ -24,3 +24,4 @@ pub mod Claim
 pub mod Shortcuts
 pub mod Intervals
 pub mod Sound
+pub mod Ends

@@ -1,20 +1,20 @@
 -- The facts that fast code rests on.
 -- Assumes nothing.
-use mathlib.Core.Path.{_≡_, refl, sym}
+use mathlib.Core.Path.{_≡_, refl, sym, _∙_}
 use mathlib.Core.Bool.{Bool, So}
 use mathlib.Core.Logic.{_↔_, _≢_, _⊎_, ⊎-elim}
 use Prim.Native.Nat.{ℕ, zero, suc, _+_, _<_, _≤_, _^_}
 use native.Mathlib.Nat.{lt-irrefl}
 use native.Mathlib.Omega.{arith}
 use lib.ListN.{getD}
-use Rattle.sets.specs.Truth.{_and_, none}
+use Rattle.sets.specs.Truth.{_and_, any, none}
 use Rattle.sets.specs.Sets.{has, _∩_, _∪_, _∖_, single, subset, properSubset}
-use Rattle.sets.proofs.Truth.{by-test, So-not, and-iff, none-of, none-is, find, equal-or}
+use Rattle.sets.proofs.Truth.{by-test, So-not, and-iff, any-iff, none-of, none-is, find, either, equal-or}
 use Rattle.sets.proofs.Items.{same-set, has-zero, empty-of, item-below}
 use Rattle.sets.proofs.Order.{collect-iff, ∩-iff, ∪-iff, ∖-iff, single-iff, subset-iff, subset-refl, subset-trans, proper-iff, proper-subset, proper-trans}
 use Rattle.model.specs.Hierarchy.{Roles, candidateCount, permissionSet, authorisedUsers, senior, immediatelySenior, immediateJuniors, directPermissions, directMembers}
 use Rattle.model.specs.Coverage.{covered}
-use Rattle.model.specs.Indexes.{lower, maximal, rolesOfUser, rolesOfPermission}
+use Rattle.model.specs.Indexes.{lower, maximal, rolesOfUser, rolesOfPermission, sureRoles, downFrom, upFrom, firstHolder, firstHolders}
 use Rattle.model.proofs.Reading.{Ordered, user-iff, covers-iff, covered-iff, senior-iff, immediate-iff, junior-iff, permission-iff, member-iff}
 use Rattle.model.proofs.Building.{stands-below, senior-trans, senior-lower, senior-stands, senior-permission, senior-user, topmost}
 use Rattle.model.proofs.Changes.{between}
@@ -54,7 +54,62 @@ pub rolesOfPermission-iff : (ρ : Roles) (p k : ℕ) → So (has (rolesOfPermiss
 unfolding rolesOfPermission
 rolesOfPermission-iff ρ p k = collect-iff (candidateCount ρ) (λ k. has (permissionSet ρ k) p) k
 
--- a grant is covered exactly where a role of s holds both the person and the permission
+pub sureRoles-iff : (ρ : Roles) (u k : ℕ) → So (has (sureRoles ρ u) k) ↔ ((k < candidateCount ρ) × So (subset (permissionSet ρ k) (getD (ρ .granted) u 0)))
+unfolding sureRoles
+sureRoles-iff ρ u k = collect-iff (candidateCount ρ) (λ k. subset (permissionSet ρ k) (getD (ρ .granted) u 0)) k
+
+pub downFrom-iff : (ρ : Roles) (k j : ℕ) → So (has (downFrom ρ k) j) ↔ ((j < candidateCount ρ) × So (subset (permissionSet ρ j) (permissionSet ρ k)))
+unfolding downFrom
+downFrom-iff ρ k j = collect-iff (candidateCount ρ) (λ j. subset (permissionSet ρ j) (permissionSet ρ k)) j
+
+pub upFrom-iff : (ρ : Roles) (k j : ℕ) → So (has (upFrom ρ k) j) ↔ ((j < candidateCount ρ) × So (subset (permissionSet ρ k) (permissionSet ρ j)))
+unfolding upFrom
+upFrom-iff ρ k j = collect-iff (candidateCount ρ) (λ j. subset (permissionSet ρ k) (permissionSet ρ j)) j
+
+pub firstHolder-iff : (ρ : Roles) (p g : ℕ)
+    → So (firstHolder ρ p g) ↔ (So (has (rolesOfPermission ρ p) g) × ((j : ℕ) → So (has (rolesOfPermission ρ p) j) → g ≤ j))
+unfolding firstHolder
+firstHolder-iff ρ p g =
+    let held : ℕ → Bool = λ j. has (rolesOfPermission ρ p) j in (
+      λ h. let a = and-iff (held g) (none g held) .0 h in (a .0, λ j t. either j g (λ l. absurd (none-is g held (a .1) j l t)) (λ l. l)),
+      λ f. and-iff (held g) (none g held) .1 (f .0, none-of g held (λ j l t. let b = f .1 j t in lt-irrefl g (omega arith))),
+    )
+
+pub firstHolders-iff : (ρ : Roles) (g : ℕ) → So (has (firstHolders ρ) g) ↔ ((p : ℕ) × (p < ρ .permissions) × So (firstHolder ρ p g))
+unfolding firstHolders
+firstHolders-iff ρ g =
+    let c = candidateCount ρ in
+    let test : ℕ → Bool = λ g. any (ρ .permissions) (λ p. firstHolder ρ p g) in (
+      λ h. any-iff (ρ .permissions) (λ p. firstHolder ρ p g) .0 (collect-iff c test g .0 h .1),
+      λ w.
+          collect-iff c test g .1
+          (rolesOfPermission-iff ρ (w .0) g .0 (firstHolder-iff ρ (w .0) g .0 (w .2) .0) .0, any-iff (ρ .permissions) (λ p. firstHolder ρ p g) .1 w),
+    )
+
+-- what lies within a user's role is a role of the user
+pub user-down : (ρ : Roles) (u k j : ℕ) → So (has (rolesOfUser ρ u) k) → So (has (downFrom ρ k) j) → So (has (rolesOfUser ρ u) j)
+user-down ρ u k j h t =
+    let S = permissionSet ρ in
+    let a = user-iff ρ k u .0 (rolesOfUser-iff ρ u k .0 h .1) in
+    let b = downFrom-iff ρ k j .0 t in
+    rolesOfUser-iff ρ u j .1 (b .0, user-iff ρ j u .1 (a .0, subset-trans (S j) (S k) (getD (ρ .possible) u 0) (b .1) (a .1)))
+
+-- k with those that lie properly within it
+pub down-lower : (ρ : Roles) → ((j k : ℕ) → j < candidateCount ρ → k < candidateCount ρ → permissionSet ρ j ≡ permissionSet ρ k → j ≡ k)
+    → (k : ℕ) → k < candidateCount ρ → lower ρ k ∪ single k ≡ downFrom ρ k
+down-lower ρ distinct k l =
+    let S = permissionSet ρ in
+    same-set (lower ρ k ∪ single k) (downFrom ρ k)
+    (λ j t.
+    ⊎-elim (λ x. let a = lower-iff ρ k j .0 x in downFrom-iff ρ k j .1 (a .0, proper-subset (S j) (S k) (a .1)))
+    (λ x. let e : k ≡ j = single-iff k j .0 x in downFrom-iff ρ k j .1 (rw e at l, rw e (subset-refl (S j)))) (∪-iff (lower ρ k) (single k) j .0 t))
+    (λ j t.
+    let a = downFrom-iff ρ k j .0 t in
+    ∪-iff (lower ρ k) (single k) j .1
+    (equal-or (S j) (S k) (λ e. _⊎_.inr (single-iff k j .1 (sym (distinct j k (a .0) l e))))
+    (λ d. _⊎_.inl (lower-iff ρ k j .1 (a .0, proper-iff (S j) (S k) .1 (a .1, d))))))
+
+-- a grant is covered exactly where a role of s holds both the user and the permission
 pub covered-index : (ρ : Roles) (s u p : ℕ) → So (covered ρ s u p) ↔ ((k : ℕ) × So (has (rolesOfUser ρ u ∩ rolesOfPermission ρ p ∩ s) k))
 covered-index ρ s u p = (
   λ h.
@@ -231,7 +286,7 @@ module _ (ρ : Roles) (R : ℕ) (o : Ordered ρ R) where
         ),
   )
 
-  -- whoever is covered is so by a role of which the person is a direct member
+  -- whoever is covered is so by a role of which the user is a direct member
   pub covered-direct : (u p : ℕ) → So (covered ρ R u p) ↔ ((k : ℕ) × So (has (directMembers ρ R k) u) × So (has (permissionSet ρ k) p))
   covered-direct u p = (
     λ h.
@@ -244,28 +299,16 @@ module _ (ρ : Roles) (R : ℕ) (o : Ordered ρ R) where
         covered-iff ρ R u p .1 (w .0, stands-below ρ R o (w .0) (m .1), m .1, covers-iff ρ (w .0) u p .1 (m .2, w .2)),
   )
 
--- "A user counts by the role that equals their row": the roles that hold a person are that role and all lower ones
+-- "A user counts by the role that equals their row": the roles that hold a user are that role and all lower ones
 pub user-own : (ρ : Roles) (u e : ℕ) → ((j k : ℕ) → j < candidateCount ρ → k < candidateCount ρ → permissionSet ρ j ≡ permissionSet ρ k → j ≡ k)
     → u < ρ .users → e < candidateCount ρ → permissionSet ρ e ≡ getD (ρ .possible) u 0 → rolesOfUser ρ u ≡ lower ρ e ∪ single e
 user-own ρ u e distinct lu le own =
-    same-set (rolesOfUser ρ u) (lower ρ e ∪ single e)
-    (λ k t.
-    let a = rolesOfUser-iff ρ u k .0 t in
-    let b : So (subset (permissionSet ρ k) (permissionSet ρ e)) = rw own (user-iff ρ k u .0 (a .1) .1) in
-    ∪-iff (lower ρ e) (single e) k .1
-    (equal-or (permissionSet ρ k) (permissionSet ρ e) (λ x. _⊎_.inr (single-iff e k .1 (sym (distinct k e (a .0) le x))))
-    (λ d. _⊎_.inl (lower-iff ρ e k .1 (a .0, proper-iff (permissionSet ρ k) (permissionSet ρ e) .1 (b, d))))))
-    (λ k t.
-    ⊎-elim
-    (λ x.
-    let a = lower-iff ρ e k .0 x in
-    rolesOfUser-iff ρ u k .1 (a .0, user-iff ρ k u .1 (lu, rw own at (proper-subset (permissionSet ρ k) (permissionSet ρ e) (a .1)))))
-    (λ x.
-    let d : e ≡ k = single-iff e k .0 x in
-    rw d at (rolesOfUser-iff ρ u e .1 (le, user-iff ρ e u .1 (lu, rw own (subset-refl (getD (ρ .possible) u 0))))))
-    (∪-iff (lower ρ e) (single e) k .0 t))
+    same-set (rolesOfUser ρ u) (downFrom ρ e)
+    (λ k t. let a = rolesOfUser-iff ρ u k .0 t in downFrom-iff ρ e k .1 (a .0, rw own (user-iff ρ k u .0 (a .1) .1)))
+    (λ k t. let a = downFrom-iff ρ e k .0 t in rolesOfUser-iff ρ u k .1 (a .0, user-iff ρ k u .1 (lu, rw own at (a .1))))
+    ∙ sym (down-lower ρ distinct e le)
 
--- a person with an empty row is held by no role, since no candidate is empty
+-- a user with an empty row is held by no role, since no candidate is empty
 pub user-none : (ρ : Roles) (u : ℕ) → ((k : ℕ) → k < candidateCount ρ → permissionSet ρ k ≢ 0) → getD (ρ .possible) u 0 ≡ 0 → rolesOfUser ρ u ≡ 0
 user-none ρ u some e =
     empty-of (rolesOfUser ρ u)

@@ -1,0 +1,80 @@
+-- The regions are filled one after the other, each above those before.
+-- Assumes nothing.
+use borrow.Author.Needs.{needs}
+use Prim.Native.Nat.{_^_, _<_}
+use mathlib.Core.Path.{_≡_}
+use native.Mathlib.Omega.{arith}
+use lib.ListN.{length}
+use Rattle.edit_order.specs.Work.{workLength}
+use Rattle.sets.specs.Held.{set128}
+use Rattle.sets.proofs.Written.{words, held128}
+use Rattle.edit_order.proofs.Reaching.{first-found}
+use Rattle.edit_order.proofs.Work.{left-alone, prepared}
+use Rattle.edit_order.proofs.fill.fill_order.Statement.{statement}
+use Rattle.edit_order.proofs.fill.fill_order.Tie as tie
+
+narrow : (c : tie.After-first-holders) → set128 (c .first-holders .result) < 2 ^ 128
+narrow c = search (words, held128)
+
+fill-reach-requires : tie.Need-fill-reach-requires
+fill-reach-requires c κs = search needs
+
+fill-samples-requires : tie.Need-fill-samples-requires
+fill-samples-requires c κs = search needs
+
+fill-further-requires : tie.Need-fill-further-requires
+fill-further-requires c κs = search needs
+
+sub-first-holders : tie.Need-sub-first-holders
+sub-first-holders c = search needs
+
+part-first-holders-start : tie.Need-part-first-holders-start
+part-first-holders-start c = search needs
+
+part-first-holders-end : tie.Need-part-first-holders-end
+part-first-holders-end c = search needs
+
+first-holders-requires : tie.Need-first-holders-requires
+first-holders-requires c κs = search needs
+
+store128-requires : tie.Need-store128-requires
+store128-requires c κs = search needs
+
+same-length : tie.Need-same-length
+same-length c = search needs
+
+returns : tie.Need-returns
+returns c =
+    let holders = c .before .before .before in
+    let further = holders .before .before .before .before .before in
+    let samples = further .before .before .before .before in
+    let reach = samples .before .before .before .before in
+    let start = reach .before .before .before .before in
+    let w1 = reach .fill-reach .last .1 .1 .0 in
+    let w2 = samples .fill-samples .last .1 .1 .0 in
+    let w3 = further .fill-further .last .0 in
+    let size : length w3 ≡ workLength = omega arith in
+    let kept2 = samples .fill-samples .ensures .1 .0 in
+    let kept3 = further .fill-further .ensures .0 in
+    let stored = c .before .before .store128 .ensures in (
+      left-alone w1 w2 w3 _ _ size kept2 kept3 stored (start .args .work .now) (start .pre .1 .1 .1) (reach .fill-reach .ensures .0),
+      λ ρ ec em numbered ix held.
+          prepared w1 w2 w3 _ _ size kept2 kept3 stored _ (narrow holders) ρ (numbered .few) (reach .fill-reach .ensures .1 ρ ec numbered ix)
+          (samples .fill-samples .ensures .1 .1 ρ ec ix) (λ found. further .fill-further .ensures .1 ρ found (numbered .few))
+          (first-found ρ _ _ _ (numbered .few) em held (holders .first-holders .ensures)),
+    )
+
+pub fill-order-spec : {M : Type 1} → statement M
+fill-order-spec =
+    tie.close
+    (tie.spec
+    fill-reach-requires
+    fill-samples-requires
+    fill-further-requires
+    sub-first-holders
+    part-first-holders-start
+    part-first-holders-end
+    first-holders-requires
+    store128-requires
+    same-length
+    returns)

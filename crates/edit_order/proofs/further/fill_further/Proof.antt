@@ -1,0 +1,72 @@
+-- The entries before i are filled.
+-- Assumes nothing.
+use borrow.Author.Needs.{needs}
+use Prim.Native.Nat.{_-_, _^_, _<_}
+use native.Mathlib.Omega.{arith}
+use Rattle.sets.specs.Held.{set128}
+use Rattle.sets.proofs.Written.{words, held128}
+use Rattle.edit_order.proofs.Narrowing.{Filling, filling-start, filling-more, filling-all}
+use Rattle.edit_order.proofs.further.fill_further.Statement.{statement}
+use Rattle.edit_order.proofs.further.fill_further.Tie as tie
+
+abbrev Inv-loop : tie.InvT-loop
+Inv-loop work₀ count all i₀ work i = Filling count work₀ work i
+
+abbrev μ-loop : tie.MeasureT-loop
+μ-loop work₀ count all i₀ work i = count - i
+
+below-requires : tie.Need-below-requires Inv-loop μ-loop
+below-requires c κs = search needs
+
+loop-holds : tie.Need-loop-holds Inv-loop μ-loop
+loop-holds c = filling-start _ _ (c .before .before .pre .0)
+
+mul-store128 : tie.Need-mul-store128 Inv-loop μ-loop
+mul-store128 c = search needs
+
+add-store128 : tie.Need-add-store128 Inv-loop μ-loop
+add-store128 c = search needs
+
+further-from-requires : tie.Need-further-from-requires Inv-loop μ-loop
+further-from-requires c κs = let z = c .before .before .before .loop .inv .size in (omega arith, omega arith)
+
+store128-requires : tie.Need-store128-requires Inv-loop μ-loop
+store128-requires c κs = let z = c .before .before .before .before .loop .inv .size in omega arith
+
+add-i : tie.Need-add-i Inv-loop μ-loop
+add-i c = search needs
+
+loop-less : tie.Need-loop-less Inv-loop μ-loop
+loop-less c = search needs
+
+loop-again : tie.Need-loop-again Inv-loop μ-loop
+loop-again c =
+    let found = c .before .before .before in
+    let turn = found .before .before .before in
+    let small : set128 (found .further-from .result) < 2 ^ 128 = search (words, held128) in
+    rw (c .before .before .store128 .ensures)
+    (filling-more _ _ _ _ _ _ (turn .before .before .before .before .pre .1) (turn .loop-test .taken) (turn .before .before .below .ensures) small (turn .before .loop .inv) (found .further-from .ensures))
+
+same-length : tie.Need-same-length Inv-loop μ-loop
+same-length c = let z = c .before .loop .inv .size in omega arith
+
+returns : tie.Need-returns Inv-loop μ-loop
+returns c = filling-all _ _ _ _ (c .before .loop .inv) (omega arith)
+
+pub fill-further-spec : {M : Type 1} → statement M
+fill-further-spec =
+    tie.close
+    (tie.spec
+    Inv-loop
+    μ-loop
+    below-requires
+    loop-holds
+    mul-store128
+    add-store128
+    further-from-requires
+    store128-requires
+    add-i
+    loop-less
+    loop-again
+    same-length
+    returns)

@@ -1,0 +1,129 @@
+-- The roles that are not in `rest` are at their ranks.
+-- Assumes nothing.
+use borrow.Author.Needs.{needs}
+use mathlib.Core.List.{_++_}
+use Prim.Native.Nat.{_^_, _≤_, _<_}
+use native.Mathlib.Omega.{arith}
+use lib.Count.{ones}
+use lib.ListN.{take, drop}
+use Rattle.sets.specs.Held.{set128}
+use Rattle.sets.proofs.Written.{words, held128}
+use Rattle.hierarchy.proofs.Sieving.{fewer, not-empty, is-empty}
+use Rattle.edit_order.specs.Work.{ranksStart}
+use Rattle.edit_order.proofs.Sorting.{Cleared, cleared, Sorting, sorting-start, sorting-ready, sorting-more, sorting-all}
+use Rattle.edit_order.proofs.ranks.fill_ranks.Statement.{statement}
+use Rattle.edit_order.proofs.ranks.fill_ranks.Tie as tie
+
+abbrev Inv-loop : tie.InvT-loop
+Inv-loop work₀ c counted rest₀ work rest = Sorting work₀ c (set128 counted) (set128 rest₀) work (set128 rest)
+
+abbrev μ-loop : tie.MeasureT-loop
+μ-loop work₀ c counted rest₀ work rest = ones (set128 rest)
+
+-- the ranks are cleared; there are few roles, so ranks are small
+blank : (c : tie.After-clear Inv-loop μ-loop)
+    → Cleared (c .before .before .before .args .work .now) (take ranksStart (c .before .before .before .args .work .now) ++ (c .clear .last .0 ++ drop 258 (drop ranksStart (c .before .before .before .args .work .now))))
+blank c = cleared (c .before .before .before .args .work .now) (c .clear .last .0) (c .before .before .before .pre .0 .2 .size) (let z = c .before .before .before .pre .0 .2 .size in omega arith) (c .clear .ensures)
+
+roles-few : (c : tie.Start Inv-loop μ-loop) → c .args .c ≤ 128
+roles-few c = let n = c .pre .0 .1 in let f = c .pre .0 .2 .few in omega arith
+
+rank-small : (c : tie.After-redundancy Inv-loop μ-loop) → c .redundancy .result ≤ 128
+rank-small c = let l = c .redundancy .ensures .0 in let f = roles-few (c .before .before .before .before .before .before .before .before .before .before .before) in omega arith
+
+narrow : (c : tie.After-insert Inv-loop μ-loop) → set128 (c .insert .result) < 2 ^ 128
+narrow c = search (words, held128)
+
+sub-clear : tie.Need-sub-clear Inv-loop μ-loop
+sub-clear c = search needs
+
+part-clear-start : tie.Need-part-clear-start Inv-loop μ-loop
+part-clear-start c = let z = c .before .pre .0 .2 .size in omega arith
+
+part-clear-end : tie.Need-part-clear-end Inv-loop μ-loop
+part-clear-end c = let z = c .before .pre .0 .2 .size in omega arith
+
+clear-requires : tie.Need-clear-requires Inv-loop μ-loop
+clear-requires c κs = search needs
+
+loop-holds : tie.Need-loop-holds Inv-loop μ-loop
+loop-holds c = sorting-start _ _ _ _ _ (blank (c .before .before))
+
+is-empty-requires : tie.Need-is-empty-requires Inv-loop μ-loop
+is-empty-requires c κs = search needs
+
+lowest-item-requires : tie.Need-lowest-item-requires Inv-loop μ-loop
+lowest-item-requires c κs = not-empty _ _ (c .before .is-empty .ensures) (c .if1 .taken)
+
+redundancy-requires : tie.Need-redundancy-requires Inv-loop μ-loop
+redundancy-requires c κs =
+    let turn = c .before .before .before .before in
+    let clear = turn .before .before .before in
+    let start = clear .before .before .before in
+    sorting-ready _ _ _ _ _ _ (turn .loop .inv) _ (start .args .work .now) (blank clear) (start .pre .0) (start .pre .1) (c .before .lowest-item .ensures .there)
+
+mul-at : tie.Need-mul-at Inv-loop μ-loop
+mul-at c = let l = rank-small c in omega arith
+
+add-at : tie.Need-add-at Inv-loop μ-loop
+add-at c = let l = rank-small c in omega arith
+
+load128-requires : tie.Need-load128-requires Inv-loop μ-loop
+load128-requires c κs = let rank = c .before .before in let l = rank-small rank in let z = rank .before .before .before .before .before .loop .inv .size in omega arith
+
+insert-requires : tie.Need-insert-requires Inv-loop μ-loop
+insert-requires c κs = search needs
+
+store128-requires : tie.Need-store128-requires Inv-loop μ-loop
+store128-requires c κs = let rank = c .before .before .before .before in let l = rank-small rank in let z = rank .before .before .before .before .before .loop .inv .size in omega arith
+
+remove-requires : tie.Need-remove-requires Inv-loop μ-loop
+remove-requires c κs = search needs
+
+loop-less : tie.Need-loop-less Inv-loop μ-loop
+loop-less c = rw (c .remove .ensures) (fewer _ _ (c .before .before .before .before .before .before .before .before .before .before .lowest-item .ensures .there))
+
+loop-again : tie.Need-loop-again Inv-loop μ-loop
+loop-again c =
+    let put = c .before .before .before .before in
+    let rank = put .before .before .before .before in
+    let one = rank .before .before in
+    let turn = one .before .before .before in
+    let few = roles-few (turn .before .before .before .before .before .before) in
+    rw (c .before .before .before .store128 .ensures)
+    (sorting-more _ _ _ _ _ _ (turn .loop .inv) _ _ _ _ (one .lowest-item .ensures .there) (one .lowest-item .ensures .small) few (rank .redundancy .ensures) (put .before .load128 .ensures) (put .insert .ensures) (narrow put) _ (c .remove .ensures))
+
+same-length : tie.Need-same-length Inv-loop μ-loop
+same-length c = let z = c .before .before .loop .inv .size in let s = c .before .before .before .before .before .before .before .before .pre .0 .2 .size in omega arith
+
+returns : tie.Need-returns Inv-loop μ-loop
+returns c =
+    let turn = c .before .before in
+    let clear = turn .before .before .before in
+    let start = clear .before .before .before in
+    sorting-all _ _ _ _ _ _ (turn .loop .inv) (start .args .work .now) (start .pre .0 .2 .size) (blank clear) (is-empty _ _ (c .before .is-empty .ensures) (c .if1 .left))
+
+pub fill-ranks-spec : {M : Type 1} → statement M
+fill-ranks-spec =
+    tie.close
+    (tie.spec
+    Inv-loop
+    μ-loop
+    sub-clear
+    part-clear-start
+    part-clear-end
+    clear-requires
+    loop-holds
+    is-empty-requires
+    lowest-item-requires
+    redundancy-requires
+    mul-at
+    add-at
+    load128-requires
+    insert-requires
+    store128-requires
+    remove-requires
+    loop-less
+    loop-again
+    same-length
+    returns)

@@ -1,0 +1,132 @@
+-- The samples that are not in `samples` are taken into account.
+-- Assumes nothing.
+use borrow.Author.Needs.{needs}
+use mathlib.Core.Path.{_∙_, ap₂}
+use Prim.Native.Nat.{ℕ}
+use native.Mathlib.Omega.{arith}
+use lib.Count.{ones}
+use Rattle.sets.specs.Held.{set128}
+use Rattle.sets.specs.Sets.{_∩_}
+use Rattle.hierarchy.proofs.Sieving.{not-empty, is-empty}
+use Rattle.edit_order.proofs.Walking.{Walking, Begun, in-work, holders-below, walking-start, walking-more, walking-fewer, walking-stop, walking-all}
+use Rattle.edit_order.proofs.redundancy.redundancy.Statement.{statement}
+use Rattle.edit_order.proofs.redundancy.redundancy.Tie as tie
+
+abbrev Inv-loop : tie.InvT-loop
+Inv-loop work c counted k floor holders least₀ samples₀ least samples = Walking work (set128 holders) (set128 counted) c (set128 samples₀) least (set128 samples)
+
+abbrev μ-loop : tie.MeasureT-loop
+μ-loop work c counted k floor holders least₀ samples₀ least samples = ones (set128 samples)
+
+begun : (c : tie.After-load1283 Inv-loop μ-loop)
+    → Begun (c .before .before .before .before .before .before .args .work .now) (c .before .before .before .before .before .before .args .c) (c .before .before .before .before .before .before .args .k) (set128 (c .before .intersection .result)) (set128 (c .load1283 .result))
+begun c =
+    let start = c .before .before .before .before .before .before in
+    record {
+      given = start .pre .0;
+      low = start .pre .1;
+      holders = c .before .intersection .ensures ∙ ap₂ (λ (x y : ℕ). x ∩ y) (c .before .before .before .load128 .ensures) (c .before .before .load1282 .ensures);
+      samples = c .load1283 .ensures;
+    }
+
+floor-of-requires : tie.Need-floor-of-requires Inv-loop μ-loop
+floor-of-requires c κs = search needs
+
+mul-load128 : tie.Need-mul-load128 Inv-loop μ-loop
+mul-load128 c = let f = in-work _ _ _ (c .before .before .pre .0) (c .before .before .pre .1) in omega arith
+
+add-load128 : tie.Need-add-load128 Inv-loop μ-loop
+add-load128 c = let f = in-work _ _ _ (c .before .before .pre .0) (c .before .before .pre .1) in omega arith
+
+load128-requires : tie.Need-load128-requires Inv-loop μ-loop
+load128-requires c κs = let f = in-work _ _ _ (c .before .before .pre .0) (c .before .before .pre .1) in omega arith
+
+load128-requires-2 : tie.Need-load128-requires-2 Inv-loop μ-loop
+load128-requires-2 c κs = let f = in-work _ _ _ (c .before .before .before .pre .0) (c .before .before .before .pre .1) in omega arith
+
+intersection-requires : tie.Need-intersection-requires Inv-loop μ-loop
+intersection-requires c κs = search needs
+
+mul-load128-2 : tie.Need-mul-load128-2 Inv-loop μ-loop
+mul-load128-2 c = let f = in-work _ _ _ (c .before .before .before .before .before .pre .0) (c .before .before .before .before .before .pre .1) in omega arith
+
+add-load128-2 : tie.Need-add-load128-2 Inv-loop μ-loop
+add-load128-2 c = let f = in-work _ _ _ (c .before .before .before .before .before .pre .0) (c .before .before .before .before .before .pre .1) in omega arith
+
+load128-requires-3 : tie.Need-load128-requires-3 Inv-loop μ-loop
+load128-requires-3 c κs = let f = in-work _ _ _ (c .before .before .before .before .before .pre .0) (c .before .before .before .before .before .pre .1) in omega arith
+
+loop-holds : tie.Need-loop-holds Inv-loop μ-loop
+loop-holds c = walking-start _ _ _ _ _
+
+is-empty-requires : tie.Need-is-empty-requires Inv-loop μ-loop
+is-empty-requires c κs = search needs
+
+highest-item-requires : tie.Need-highest-item-requires Inv-loop μ-loop
+highest-item-requires c κs = not-empty _ _ (c .before .is-empty .ensures) (c .if1 .taken)
+
+least-of-requires : tie.Need-least-of-requires Inv-loop μ-loop
+least-of-requires c κs = (c .highest-item .ensures .small, holders-below _ _ _ _ _ (begun (c .before .before .before .before)))
+
+returns : tie.Need-returns Inv-loop μ-loop
+returns c =
+    let one = c .before .before in
+    let turn = one .before .before .before in
+    walking-stop _ _ _ _ _ (begun (turn .before)) _ _ _ (turn .loop .inv) _ _ _ (one .highest-item .ensures .there) (c .before .least-of .ensures) (turn .before .before .before .before .before .floor-of .ensures) (c .if2 .taken)
+
+mul-load128-3 : tie.Need-mul-load128-3 Inv-loop μ-loop
+mul-load128-3 c = let l = c .before .before .highest-item .ensures .small in omega arith
+
+add-load128-3 : tie.Need-add-load128-3 Inv-loop μ-loop
+add-load128-3 c = let l = c .before .before .highest-item .ensures .small in omega arith
+
+load128-requires-4 : tie.Need-load128-requires-4 Inv-loop μ-loop
+load128-requires-4 c κs = let one = c .before .before in let l = one .highest-item .ensures .small in let z = one .before .before .before .before .before .before .before .before .before .before .pre .0 .2 .size in omega arith
+
+difference-requires : tie.Need-difference-requires Inv-loop μ-loop
+difference-requires c κs = search needs
+
+loop-less : tie.Need-loop-less Inv-loop μ-loop
+loop-less c =
+    let one = c .before .before .before .before in
+    let turn = one .before .before .before in
+    rw (c .difference .ensures) (walking-fewer _ _ _ _ _ (begun (turn .before)) _ _ _ (turn .loop .inv) _ _ _ (one .highest-item .ensures .there) (c .before .before .before .least-of .ensures) _ (c .before .load1284 .ensures))
+
+loop-again : tie.Need-loop-again Inv-loop μ-loop
+loop-again c =
+    let one = c .before .before .before .before in
+    let turn = one .before .before .before in
+    walking-more _ _ _ _ _ (begun (turn .before)) _ _ _ (turn .loop .inv) _ _ _ (one .highest-item .ensures .there) (c .before .before .before .least-of .ensures) _ _ (c .before .before .if2 .left) (c .before .load1284 .ensures) (c .difference .ensures)
+
+returns-2 : tie.Need-returns-2 Inv-loop μ-loop
+returns-2 c =
+    let turn = c .before .before in
+    walking-all _ _ _ _ _ (begun (turn .before)) _ _ _ (turn .loop .inv) (is-empty _ _ (c .before .is-empty .ensures) (c .if1 .left))
+
+pub redundancy-spec : {M : Type 1} → statement M
+redundancy-spec =
+    tie.close
+    (tie.spec
+    Inv-loop
+    μ-loop
+    floor-of-requires
+    mul-load128
+    add-load128
+    load128-requires
+    load128-requires-2
+    intersection-requires
+    mul-load128-2
+    add-load128-2
+    load128-requires-3
+    loop-holds
+    is-empty-requires
+    highest-item-requires
+    least-of-requires
+    returns
+    mul-load128-3
+    add-load128-3
+    load128-requires-4
+    difference-requires
+    loop-less
+    loop-again
+    returns-2)

@@ -1,0 +1,76 @@
+-- The users that are not in `rest` have their samples.
+-- Assumes nothing.
+use borrow.Author.Needs.{needs}
+use native.Mathlib.Omega.{arith}
+use lib.Count.{ones}
+use Rattle.sets.specs.Held.{set128}
+use Rattle.hierarchy.proofs.Sieving.{fewer, not-empty, is-empty}
+use Rattle.indexes.specs.Index.{rolesStart}
+use Rattle.edit_order.specs.Work.{entry}
+use Rattle.edit_order.proofs.Sampling.{Adding, adding-start, adding-more, adding-room, adding-all}
+use Rattle.edit_order.proofs.samples.add_samples.Statement.{statement}
+use Rattle.edit_order.proofs.samples.add_samples.Tie as tie
+
+abbrev Inv-loop : tie.InvT-loop
+Inv-loop index table₀ count found₀ rest₀ table found rest = Adding (entry index rolesStart) (set128 rest₀) found₀ table₀ table found (set128 rest)
+
+abbrev μ-loop : tie.MeasureT-loop
+μ-loop index table₀ count found₀ rest₀ table found rest = ones (set128 rest)
+
+loop-holds : tie.Need-loop-holds Inv-loop μ-loop
+loop-holds c = adding-start _ _ _ _ (c .before .before .pre .1)
+
+is-empty-requires : tie.Need-is-empty-requires Inv-loop μ-loop
+is-empty-requires c κs = search needs
+
+lowest-item-requires : tie.Need-lowest-item-requires Inv-loop μ-loop
+lowest-item-requires c κs = not-empty _ _ (c .before .is-empty .ensures) (c .if1 .taken)
+
+mul-load128 : tie.Need-mul-load128 Inv-loop μ-loop
+mul-load128 c = let l = c .before .lowest-item .ensures .small in omega arith
+
+add-load128 : tie.Need-add-load128 Inv-loop μ-loop
+add-load128 c = let l = c .before .lowest-item .ensures .small in omega arith
+
+load128-requires : tie.Need-load128-requires Inv-loop μ-loop
+load128-requires c κs = let l = c .before .lowest-item .ensures .small in omega arith
+
+add-sample-requires : tie.Need-add-sample-requires Inv-loop μ-loop
+add-sample-requires c κs = let turn = c .before .before in (turn .before .before .before .loop .inv .size, adding-room _ _ _ _ _ _ _ _ (turn .before .before .before .loop .inv) (turn .before .before .before .before .before .before .pre .2) (turn .lowest-item .ensures .there))
+
+remove-requires : tie.Need-remove-requires Inv-loop μ-loop
+remove-requires c κs = search needs
+
+loop-less : tie.Need-loop-less Inv-loop μ-loop
+loop-less c = rw (c .remove .ensures) (fewer _ _ (c .before .before .before .before .before .before .lowest-item .ensures .there))
+
+loop-again : tie.Need-loop-again Inv-loop μ-loop
+loop-again c =
+    let added = c .before .before .before in
+    let turn = added .before .before .before in
+    adding-more _ _ _ _ _ _ _ _ _ _ _ _ (turn .before .before .before .loop .inv) (turn .lowest-item .ensures .there) (added .before .load128 .ensures) (omega arith) (added .add-sample .ensures) (c .remove .ensures)
+
+same-length : tie.Need-same-length Inv-loop μ-loop
+same-length c = let z = c .before .before .loop .inv .size in omega arith
+
+returns : tie.Need-returns Inv-loop μ-loop
+returns c = adding-all _ _ _ _ _ _ _ (c .before .before .loop .inv) (is-empty _ _ (c .before .is-empty .ensures) (c .if1 .left))
+
+pub add-samples-spec : {M : Type 1} → statement M
+add-samples-spec =
+    tie.close
+    (tie.spec
+    Inv-loop
+    μ-loop
+    loop-holds
+    is-empty-requires
+    lowest-item-requires
+    mul-load128
+    add-load128
+    load128-requires
+    add-sample-requires
+    remove-requires
+    loop-less
+    loop-again
+    same-length
+    returns)
