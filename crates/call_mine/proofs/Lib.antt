@@ -1,1 +1,1 @@
-mod Mining
+pub mod Mining

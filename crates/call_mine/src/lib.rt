@@ -1,17 +1,15 @@
 ghost use mathlib.Core.Path.{_≡_};
-ghost use Prim.Native.Nat.{_*_, _≤_};
-ghost use lib.Dec.{eqb};
-ghost use lib.ListN.{length};
-ghost use Rattle.sets.specs.Truth.{_and_};
-ghost use Rattle.model.specs.Lists.{rowsAt};
-ghost use Rattle.model.specs.State.{rowsWithin};
+ghost use Rattle.model.specs.Refusals.{_orElse_, lengthRefusal, limitsRefusal, crewRefusal};
 ghost use Rattle.model.specs.Calls.{mine};
-ghost use Rattle.call_mine.specs.Answers.{mined};
+ghost use Rattle.call_mine.specs.Results.{mineResult};
+use calls::length_refusal;
 use mining::Mined;
+use records::mine_record;
 use records::write_fresh;
+use refusals::REFUSED_CANDIDATES;
 use tables::LENGTH;
-use tables::limits_kept;
-use tables::rows_within;
+use tables::crew_refusal;
+use tables::limits_refusal;
 
 // The refusal's number, or 0, and beside 0 the number of candidates.
 #[repr(C)]
@@ -29,36 +27,35 @@ fn refused(code: u64) -> MineAnswer
     }
 }
 
-// Whether the crew list has four words to a user, and no permission at m or above.
-fn crew_fits(crew: &[u64], n: usize, m: usize) -> bool
-    requires { ⌜ (n ≤ 128) × (m ≤ 256) ⌝ }
-    ensures { λ r. ⌜ r ≡ (eqb (length (now (crew .entry))) (4 * n) and rowsWithin m (rowsAt n (now (crew .entry)) 0)) ⌝ }
+// What can be told without mining: 1, 2 or 3, or 0.
+fn lent_refusal(n: u64, m: u64, crew: &[u64], rec: &[u64]) -> u64
+    ensures { λ r. ⌜ r ≡ lengthRefusal (now (rec .entry)) orElse limitsRefusal n m orElse crewRefusal n m (now (crew .entry)) ⌝ }
 {
-    if crew.len() != 4 * n {
-        return false;
+    let code = length_refusal(rec);
+    if code != 0 {
+        return code;
     }
-    rows_within(crew, 0, n, m)
+    let code = limits_refusal(n, m);
+    if code != 0 {
+        return code;
+    }
+    crew_refusal(n as usize, m as usize, crew)
 }
 
 // Mines roles from a crew list of n users and m permissions and writes the whole record, with all candidates standing. Nothing is written
 // before the last refusal.
 pub fn panel_mine(n: u64, m: u64, crew: &[u64], rec: &mut [u64]) -> MineAnswer
-    ensures { λ r. ⌜ mined r (now (rec .exit)) ≡ mine n m (now (crew .entry)) (now (rec .entry)) ⌝ }
+    ensures { λ r. ⌜ mineResult r (now (rec .exit)) ≡ mine n m (now (crew .entry)) (now (rec .entry)) ⌝ }
 {
-    if rec.len() != LENGTH {
-        return refused(1);
+    let code = lent_refusal(n, m, crew, rec);
+    if code != 0 {
+        return refused(code);
     }
-    if !limits_kept(n, m) {
-        return refused(2);
-    }
-    if !crew_fits(crew, n as usize, m as usize) {
-        return refused(3);
-    }
-    let mut table = [0u64; 512];
-    let Mined::Count(c) = mining::mine(crew, 0, n as usize, &mut table) else {
-        return refused(4);
+    let mut image = [0u64; LENGTH];
+    let Mined::Count(c) = mine_record(&mut image, crew, 0, n as usize) else {
+        return refused(REFUSED_CANDIDATES);
     };
-    write_fresh(rec, crew, n as usize, m, &table, c);
+    write_fresh(rec, &mut image, crew, n as usize, m, c);
     MineAnswer {
         code: 0,
         candidates: c as u64,

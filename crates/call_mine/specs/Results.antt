@@ -5,5 +5,5 @@ use Prim.Native.Nat.{ℕ}
 use Rattle.model.specs.Calls.{Mined}
 use Rattle.call_mine.specs.declared.MineAnswer.{MineAnswer}
 
-unfoldable pub mined : MineAnswer → List ℕ → Mined
-mined r ws = record { code = r .code; candidates = r .candidates; words = ws }
+unfoldable pub mineResult : MineAnswer → List ℕ → Mined
+mineResult r ws = record { code = r .code; candidates = r .candidates; words = ws }
