@@ -3,10 +3,10 @@
 use mathlib.Core.Path.{_≡_, refl, sym, _∙_, ap}
 use mathlib.Core.Bool.{So}
 use mathlib.Core.Logic.{_↔_, _≢_, _⊎_, ⊎-elim}
-use mathlib.Core.List.{List, _++_}
+use mathlib.Core.List.{List}
 use Prim.Native.Nat.{ℕ, _+_, _-_, _*_, _^_, _≤_, _<_}
-use native.Mathlib.Nat.{le-trans}
 use native.Mathlib.Omega.{arith}
+use borrow.Rule.Slice.PartMut.{putMid}
 use lib.Dec.{ltb}
 use lib.ListN.{length, getD, take, drop, set}
 use lib.Seq.{getD-set-same, getD-set-other}
@@ -36,21 +36,22 @@ zero-more ws i zero l j lj =
 
 -- ---- the ranks cleared
 
-pub record Cleared (before ws : List ℕ) : Type 0 where
+pub record Cleared (c : ℕ) (before ws : List ℕ) : Type 0 where
   pub size : length ws ≡ workLength
   pub kept : Unchanged 0 ranksStart before ws
-  pub zero : (i : ℕ) → ranksStart ≤ i → i < workLength → getD ws i 0 ≡ 0
+  pub zero : (i : ℕ) → ranksStart ≤ i → i < ranksStart + 2 * c + 2 → getD ws i 0 ≡ 0
 
-pub cleared : (before zeros : List ℕ) → length before ≡ workLength → length zeros ≡ 258 → ((i : ℕ) → i < length zeros → getD zeros i 0 ≡ 0)
-    → Cleared before (take ranksStart before ++ (zeros ++ drop 258 (drop ranksStart before)))
-cleared before zeros eb ez zero =
-    rw (part-back before ranksStart 258 zeros ez (omega arith))
+pub cleared : (c : ℕ) (before zeros : List ℕ) → length before ≡ workLength → c ≤ 128 → length zeros ≡ 2 * c + 2 → ((i : ℕ) → i < length zeros → getD zeros i 0 ≡ 0)
+    → Cleared c before (putMid ranksStart (ranksStart + 2 * c + 2 - ranksStart) before zeros)
+cleared c before zeros eb few ez zero =
+    let k = ranksStart + 2 * c + 2 - ranksStart in
+    rw (part-back before ranksStart k zeros (omega arith) (omega arith))
     (record {
       size = length-putAt before ranksStart zeros ∙ eb;
       kept = unchanged-below before ranksStart zeros;
       zero = λ i from to.
           let e : i ≡ ranksStart + (i - ranksStart) = omega arith in
-          ap (λ (k : ℕ). getD (putAt before ranksStart zeros) k 0) e ∙ putAt-in before ranksStart zeros (i - ranksStart) (omega arith) (omega arith)
+          ap (λ (j : ℕ). getD (putAt before ranksStart zeros) j 0) e ∙ putAt-in before ranksStart zeros (i - ranksStart) (omega arith) (omega arith)
           ∙ zero (i - ranksStart) (omega arith);
     })
 
@@ -64,11 +65,11 @@ pub record Sorting (before : List ℕ) (c counted worklist : ℕ) (ws : List ℕ
   pub size : length ws ≡ workLength
   pub kept : Unchanged 0 ranksStart before ws
   pub within : (k : ℕ) → So (has rest k) → So (has worklist k)
-  pub absent : (k q : ℕ) → So (has rest k) → q ≤ 128 → So (has (entry ws ranksStart q) k) → ⊥
+  pub absent : (k q : ℕ) → So (has rest k) → q ≤ c → So (has (entry ws ranksStart q) k) → ⊥
   pub done : (st : State) → Limits st → candidateCount (rolesOf st) ≡ c → Prepared (rolesOf st) before → (k : ℕ) → So (has worklist k) → (So (has rest k) → ⊥)
-      → (redundancy (rolesOf st) counted k ≤ 128) × ((q : ℕ) → q ≤ 128 → So (has (entry ws ranksStart q) k) ↔ (q ≡ redundancy (rolesOf st) counted k))
+      → (redundancy (rolesOf st) counted k ≤ c) × ((q : ℕ) → q ≤ c → So (has (entry ws ranksStart q) k) ↔ (q ≡ redundancy (rolesOf st) counted k))
 
-pub sorting-start : (before ws : List ℕ) (c counted worklist : ℕ) → Cleared before ws → Sorting ws c counted worklist ws worklist
+pub sorting-start : (before ws : List ℕ) (c counted worklist : ℕ) → Cleared c before ws → Sorting ws c counted worklist ws worklist
 sorting-start before ws c counted worklist clear =
     record {
       size = clear .size;
@@ -81,7 +82,7 @@ sorting-start before ws c counted worklist clear =
 
 module _ (before : List ℕ) (c counted worklist : ℕ) (ws : List ℕ) (rest : ℕ) (inv : Sorting before c counted worklist ws rest) where
   -- what the next redundancy is computed from
-  pub sorting-ready : (k : ℕ) (first : List ℕ) → Cleared first before → PreparedFor c first → worklist < 2 ^ c → So (has rest k) → PreparedFor c ws × (k < c)
+  pub sorting-ready : (k : ℕ) (first : List ℕ) → Cleared c first before → PreparedFor c first → worklist < 2 ^ c → So (has rest k) → PreparedFor c ws × (k < c)
   sorting-ready k first clear P b there = (
     (P .0, P .1, same-tables before ws (inv .size) (inv .kept) (P .0) (same-tables first before (clear .size) (clear .kept) (P .0) (P .2))),
     item-below c worklist k b (inv .within k there),
@@ -94,13 +95,10 @@ module _ (before : List ℕ) (c counted worklist : ℕ) (ws : List ℕ) (rest : 
     abbrev next : List ℕ
     next = putAt ws (ranksStart + 2 * q) (wordsOf 2 y)
 
-    low : q ≤ 128
-    low = le-trans (tells .0) few
-
     put : (j i : ℕ) → So (has (entry next ranksStart j) i) ↔ (So (has (entry ws ranksStart j) i) ⊎ ((j ≡ q) × (i ≡ k)))
     put j i =
         let size = inv .size in
-        let l = low in
+        let l = tells .0 in
         let e : y ≡ entry ws ranksStart q ∪ single k = ey ∙ if-true (ltb k 128) (x ∪ single k) x (ltb-iff k 128 .1 small) ∙ ap (λ (z : ℕ). z ∪ single k) ex in
         let same : entry next ranksStart q ≡ entry ws ranksStart q ∪ single k = stored-back ws (ranksStart + 2 * q) 2 y (omega arith) by ∙ e in
         let other : j ≢ q → entry next ranksStart j ≡ entry ws ranksStart j =
@@ -134,7 +132,7 @@ module _ (before : List ℕ) (c counted worklist : ℕ) (ws : List ℕ) (rest : 
               let e : q ≡ redundancy (rolesOf st) counted k =
               tells .1 st lim n (same-tables before ws (inv .size) (inv .kept) (rolesOf st) P) in
               rw d (
-                rw (sym e) low,
+                rw (sym e) (tells .0),
                 λ j l. (
                   λ h. ⊎-elim (λ z. absurd (inv .absent k j there l z)) (λ z. z .0 ∙ e) (put j k .0 h),
                   λ z. put j k .1 (_⊎_.inr (z ∙ sym e, refl)),
@@ -150,11 +148,11 @@ module _ (before : List ℕ) (c counted worklist : ℕ) (ws : List ℕ) (rest : 
               ));
         }
 
-  pub sorting-all : (first : List ℕ) → length first ≡ workLength → Cleared first before → rest ≡ 0
+  pub sorting-all : (first : List ℕ) → length first ≡ workLength → c ≤ 128 → Cleared c first before → rest ≡ 0
       → (take ranksStart ws ≡ take ranksStart first)
       × ((st : State) → Limits st → candidateCount (rolesOf st) ≡ c → Prepared (rolesOf st) first
-      → Keyed (take 258 (drop ranksStart ws)) worklist (redundancy (rolesOf st) counted))
-  sorting-all first ef clear e = (
+      → Keyed c (take 258 (drop ranksStart ws)) worklist (redundancy (rolesOf st) counted))
+  sorting-all first ef few clear e = (
     unchanged-take ranksStart first ws (inv .size ∙ sym ef) (omega arith) (λ i from to. inv .kept i from to ∙ clear .kept i from to),
     λ st lim n P k t.
         let o = inv .done st lim n (same-tables first before (clear .size) (clear .kept) (rolesOf st) P) k t (λ x. So-not (has-zero k) (rw e at x)) in

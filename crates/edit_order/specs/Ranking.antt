@@ -4,9 +4,10 @@ use mathlib.Core.Path.{_≡_}
 use mathlib.Core.Bool.{So}
 use mathlib.Core.Logic.{_↔_}
 use mathlib.Core.List.{List}
-use Prim.Native.Nat.{ℕ, _*_, _≤_, _<_}
+use Prim.Native.Nat.{ℕ, _*_, _^_, _≤_, _<_}
 use Rattle.sets.specs.Sets.{has}
 use Rattle.model.specs.Lists.{setAt}
+use Rattle.model.specs.Machine.{foremost}
 use Rattle.hierarchy.specs.Tables.{Lowest}
 
 -- the items of s are the lowest ones of the first n entries of the table
@@ -20,6 +21,15 @@ pub record LeastTo (floor m b s : ℕ) (f : ℕ → ℕ) : Type 0 where
   pub above : (x : ℕ) → x ≤ b → ((i : ℕ) → So (has s i) → x ≤ f i) → x ≤ m
   pub least : floor < m → (i : ℕ) → So (has s i) → m ≤ f i
 
--- the roles of s by their keys, none above 128: of them, entry q of the table has those whose key is q
-abbrev pub Keyed : List ℕ → ℕ → (ℕ → ℕ) → Type 0
-Keyed ranks s key = (k : ℕ) → So (has s k) → (key k ≤ 128) × ((q : ℕ) → q ≤ 128 → So (has (setAt 2 ranks (2 * q)) k) ↔ (q ≡ key k))
+-- the roles of s by their keys, none above `top`: of them, entry q of the table has those whose key is q, for each q up to `top`
+abbrev pub Keyed : ℕ → List ℕ → ℕ → (ℕ → ℕ) → Type 0
+Keyed top ranks s key = (k : ℕ) → So (has s k) → (key k ≤ top) × ((q : ℕ) → q ≤ top → So (has (setAt 2 ranks (2 * q)) k) ↔ (q ≡ key k))
+
+-- of the roles to do, the one that a pass takes up next, and its key: it is the foremost where none has a key above `top`, and then none has a
+-- key above its own
+pub record Next (ranks : List ℕ) (todo top role rank : ℕ) : Type 0 where
+  pub small : role < 128
+  pub there : So (has todo role)
+  pub low : rank ≤ top
+  pub first : (c : ℕ) (key : ℕ → ℕ) → todo < 2 ^ c → Keyed top ranks todo key → role ≡ foremost c key todo
+  pub keyed : (key : ℕ → ℕ) → Keyed top ranks todo key → Keyed rank ranks todo key

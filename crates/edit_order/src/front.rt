@@ -1,13 +1,10 @@
 // Which role of a pass comes next.
 ghost use mathlib.Core.Path.{_≡_};
-ghost use mathlib.Core.Bool.{So};
 ghost use mathlib.Core.Logic.{_≢_};
-ghost use Prim.Native.Nat.{ℕ, _*_, _^_, _≤_, _<_};
+ghost use Prim.Native.Nat.{_≤_};
 ghost use lib.ListN.{length};
 ghost use Rattle.sets.specs.Held.{set128};
-ghost use Rattle.sets.specs.Sets.{has};
-ghost use Rattle.model.specs.Machine.{foremost};
-ghost use Rattle.edit_order.specs.Ranking.{Keyed};
+ghost use Rattle.edit_order.specs.Ranking.{Next};
 use hierarchy::lowest_item;
 use sets::Set128;
 use tables::load128;
@@ -21,8 +18,10 @@ pub struct Front {
 // The role of `todo` with the largest key, and of several such the lowest. No key is above `top`: the key of the role before, so that a pass walks
 // down the ranks once.
 pub fn foremost(ranks: &[u64], todo: Set128, top: usize) -> Front
-    requires { ⌜ (length (now ranks) ≡ 258) × (set128 todo ≢ 0) × (top ≤ 128) ⌝ }
-    ensures { λ r. ⌜ (r .role < 128) × So (has (set128 todo) (r .role)) × (r .rank ≤ 128) × ((c : ℕ) (key : ℕ → ℕ) → set128 todo < 2 ^ c → Keyed (now (ranks .entry)) (set128 todo) key → ((k : ℕ) → So (has (set128 todo) k) → key k ≤ top) → (r .role ≡ foremost c key (set128 todo)) × ((k : ℕ) → So (has (set128 todo) k) → key k ≤ r .rank)) ⌝ }
+    requires { ⌜ length (now ranks) ≡ 258 ⌝ }
+    requires { ⌜ set128 todo ≢ 0 ⌝ }
+    requires { ⌜ top ≤ 128 ⌝ }
+    ensures { λ r. ⌜ Next (now (ranks .entry)) (set128 todo) top (r .role) (r .rank) ⌝ }
 {
     let mut rank = top;
     let mut front = load128(ranks, 2 * rank).intersection(todo);

@@ -10,7 +10,6 @@ ghost use Rattle.model.specs.State.{State, rolesOf};
 ghost use Rattle.edit_order.specs.Ranking.{Keyed};
 ghost use Rattle.edit_order.specs.Work.{ranksStart, Prepared, PreparedFor};
 use crate::layout::RANKS;
-use crate::layout::WORK_LENGTH;
 use crate::redundancy::redundancy;
 use hierarchy::lowest_item;
 use sets::Set128;
@@ -32,9 +31,10 @@ pub fn fill_ranks(work: &mut [u64], c: usize, counted: Set128, worklist: Set128)
     requires { ⌜ PreparedFor c (now work) ⌝ }
     requires { ⌜ set128 worklist < 2 ^ c ⌝ }
     ensures { λ r. ⌜ take ranksStart (now (work .exit)) ≡ take ranksStart (now (work .entry)) ⌝ }
-    ensures { λ r. ⌜ ((st : State) → Limits st → candidateCount (rolesOf st) ≡ c → Prepared (rolesOf st) (now (work .entry)) → Keyed (take 258 (drop ranksStart (now (work .exit)))) (set128 worklist) (redundancy (rolesOf st) (set128 counted))) ⌝ }
+    ensures { λ r. ⌜ ((st : State) → Limits st → candidateCount (rolesOf st) ≡ c → Prepared (rolesOf st) (now (work .entry)) → Keyed c (take 258 (drop ranksStart (now (work .exit)))) (set128 worklist) (redundancy (rolesOf st) (set128 counted))) ⌝ }
 {
-    clear(&mut work[RANKS..WORK_LENGTH]);
+    let end = RANKS + 2 * c + 2;
+    clear(&mut work[RANKS..end]);
     let mut rest = worklist;
     while !rest.is_empty() {
         let k = lowest_item(rest);

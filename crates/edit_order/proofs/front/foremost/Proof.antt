@@ -25,13 +25,13 @@ intersection-requires : tie.Need-intersection-requires Inv-loop μ-loop
 intersection-requires c κs = search needs
 
 loop-holds : tie.Need-loop-holds Inv-loop μ-loop
-loop-holds c = sinking-start _ _ _ _ _ (c .before .before .before .pre .2) (c .before .load128 .ensures) (c .intersection .ensures)
+loop-holds c = sinking-start _ _ _ _ _ (c .before .load128 .ensures) (c .intersection .ensures)
 
 is-empty-requires : tie.Need-is-empty-requires Inv-loop μ-loop
 is-empty-requires c κs = search needs
 
 lowest-item-requires : tie.Need-lowest-item-requires Inv-loop μ-loop
-lowest-item-requires c κs = c .before .before .before .before .before .before .before .pre .1
+lowest-item-requires c κs = c .before .before .before .before .before .before .before .pre .1 .0
 
 returns : tie.Need-returns Inv-loop μ-loop
 returns c = sinking-out _ _ _ _ _ (c .before .before .before .before .loop .inv) (eqb-iff _ _ .0 (sym (c .before .before .before .is-empty .ensures) ∙ c .before .before .if1 .taken)) _ (c .before .if2 .taken) (c .lowest-item .ensures)
@@ -40,10 +40,10 @@ sub-rank : tie.Need-sub-rank Inv-loop μ-loop
 sub-rank c = let d = c .if2 .left in omega arith
 
 mul-load128-2 : tie.Need-mul-load128-2 Inv-loop μ-loop
-mul-load128-2 c = let s = c .before .before .before .loop .inv .small in omega arith
+mul-load128-2 c = let s = c .before .before .before .loop .inv .low in omega arith
 
 load128-requires-2 : tie.Need-load128-requires-2 Inv-loop μ-loop
-load128-requires-2 c κs = let s = c .before .before .before .loop .inv .small in omega arith
+load128-requires-2 c κs = let s = c .before .before .before .loop .inv .low in omega arith
 
 intersection-requires-2 : tie.Need-intersection-requires-2 Inv-loop μ-loop
 intersection-requires-2 c κs = search needs

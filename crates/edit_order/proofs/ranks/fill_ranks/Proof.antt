@@ -1,47 +1,60 @@
 -- The roles that are not in `rest` are at their ranks.
 -- Assumes nothing.
 use borrow.Author.Needs.{needs}
-use mathlib.Core.List.{_++_}
-use Prim.Native.Nat.{_^_, _≤_, _<_}
+use borrow.Rule.Slice.PartMut.{putMid}
+use mathlib.Core.Path.{_≡_}
+use Prim.Native.Nat.{_+_, _-_, _*_, _^_, _≤_, _<_}
 use native.Mathlib.Omega.{arith}
 use lib.Count.{ones}
-use lib.ListN.{take, drop}
+use lib.ListN.{length}
 use Rattle.sets.specs.Held.{set128}
 use Rattle.sets.proofs.Written.{words, held128}
 use Rattle.hierarchy.proofs.Sieving.{fewer, not-empty, is-empty}
-use Rattle.edit_order.specs.Work.{ranksStart}
+use Rattle.edit_order.specs.Work.{workLength, ranksStart}
 use Rattle.edit_order.proofs.Sorting.{Cleared, cleared, Sorting, sorting-start, sorting-ready, sorting-more, sorting-all}
 use Rattle.edit_order.proofs.ranks.fill_ranks.Statement.{statement}
 use Rattle.edit_order.proofs.ranks.fill_ranks.Tie as tie
 
 abbrev Inv-loop : tie.InvT-loop
-Inv-loop work₀ c counted rest₀ work rest = Sorting work₀ c (set128 counted) (set128 rest₀) work (set128 rest)
+Inv-loop work₀ c counted end rest₀ work rest = Sorting work₀ c (set128 counted) (set128 rest₀) work (set128 rest)
 
 abbrev μ-loop : tie.MeasureT-loop
-μ-loop work₀ c counted rest₀ work rest = ones (set128 rest)
+μ-loop work₀ c counted end rest₀ work rest = ones (set128 rest)
 
--- the ranks are cleared; there are few roles, so ranks are small
+at-start : (c : tie.Start Inv-loop μ-loop) → (length (c .args .work .now) ≡ workLength) × (c .args .c ≤ 128)
+at-start c = let n = c .pre .0 .1 in let f = c .pre .0 .2 .few in (c .pre .0 .2 .size, omega arith)
+
+-- the ranks are cleared, and ranks are small
 blank : (c : tie.After-clear Inv-loop μ-loop)
-    → Cleared (c .before .before .before .args .work .now) (take ranksStart (c .before .before .before .args .work .now) ++ (c .clear .last .0 ++ drop 258 (drop ranksStart (c .before .before .before .args .work .now))))
-blank c = cleared (c .before .before .before .args .work .now) (c .clear .last .0) (c .before .before .before .pre .0 .2 .size) (let z = c .before .before .before .pre .0 .2 .size in omega arith) (c .clear .ensures)
-
-roles-few : (c : tie.Start Inv-loop μ-loop) → c .args .c ≤ 128
-roles-few c = let n = c .pre .0 .1 in let f = c .pre .0 .2 .few in omega arith
+    → Cleared (c .before .before .before .args .c) (c .before .before .before .args .work .now) (putMid ranksStart (ranksStart + 2 * c .before .before .before .args .c + 2 - ranksStart) (c .before .before .before .args .work .now) (c .clear .last .0))
+blank c =
+    let start = c .before .before .before in
+    let f = at-start start in
+    cleared _ (start .args .work .now) (c .clear .last .0) (f .0) (f .1) (omega arith) (c .clear .ensures)
 
 rank-small : (c : tie.After-redundancy Inv-loop μ-loop) → c .redundancy .result ≤ 128
-rank-small c = let l = c .redundancy .ensures .0 in let f = roles-few (c .before .before .before .before .before .before .before .before .before .before .before) in omega arith
+rank-small c = let l = c .redundancy .ensures .0 in let f = at-start (c .before .before .before .before .before .before .before .before .before .before .before) in omega arith
 
 narrow : (c : tie.After-insert Inv-loop μ-loop) → set128 (c .insert .result) < 2 ^ 128
 narrow c = search (words, held128)
 
+mul-end : tie.Need-mul-end Inv-loop μ-loop
+mul-end c = let f = at-start (c .before) in omega arith
+
+add-end : tie.Need-add-end Inv-loop μ-loop
+add-end c = let f = at-start (c .before) in omega arith
+
+add-end-2 : tie.Need-add-end-2 Inv-loop μ-loop
+add-end-2 c = let f = at-start (c .before) in omega arith
+
 sub-clear : tie.Need-sub-clear Inv-loop μ-loop
-sub-clear c = search needs
+sub-clear c = let f = at-start (c .before) in omega arith
 
 part-clear-start : tie.Need-part-clear-start Inv-loop μ-loop
-part-clear-start c = let z = c .before .pre .0 .2 .size in omega arith
+part-clear-start c = let f = at-start (c .before) in omega arith
 
 part-clear-end : tie.Need-part-clear-end Inv-loop μ-loop
-part-clear-end c = let z = c .before .pre .0 .2 .size in omega arith
+part-clear-end c = let f = at-start (c .before) in omega arith
 
 clear-requires : tie.Need-clear-requires Inv-loop μ-loop
 clear-requires c κs = search needs
@@ -89,19 +102,19 @@ loop-again c =
     let rank = put .before .before .before .before in
     let one = rank .before .before in
     let turn = one .before .before .before in
-    let few = roles-few (turn .before .before .before .before .before .before) in
+    let start = turn .before .before .before .before .before .before in
     rw (c .before .before .before .store128 .ensures)
-    (sorting-more _ _ _ _ _ _ (turn .loop .inv) _ _ _ _ (one .lowest-item .ensures .there) (one .lowest-item .ensures .small) few (rank .redundancy .ensures) (put .before .load128 .ensures) (put .insert .ensures) (narrow put) _ (c .remove .ensures))
+    (sorting-more _ _ _ _ _ _ (turn .loop .inv) _ _ _ _ (one .lowest-item .ensures .there) (one .lowest-item .ensures .small) (at-start start .1) (rank .redundancy .ensures) (put .before .load128 .ensures) (put .insert .ensures) (narrow put) _ (c .remove .ensures))
 
 same-length : tie.Need-same-length Inv-loop μ-loop
-same-length c = let z = c .before .before .loop .inv .size in let s = c .before .before .before .before .before .before .before .before .pre .0 .2 .size in omega arith
+same-length c = let z = c .before .before .loop .inv .size in let f = at-start (c .before .before .before .before .before .before .before .before) in omega arith
 
 returns : tie.Need-returns Inv-loop μ-loop
 returns c =
     let turn = c .before .before in
     let clear = turn .before .before .before in
     let start = clear .before .before .before in
-    sorting-all _ _ _ _ _ _ (turn .loop .inv) (start .args .work .now) (start .pre .0 .2 .size) (blank clear) (is-empty _ _ (c .before .is-empty .ensures) (c .if1 .left))
+    sorting-all _ _ _ _ _ _ (turn .loop .inv) (start .args .work .now) (at-start start .0) (at-start start .1) (blank clear) (is-empty _ _ (c .before .is-empty .ensures) (c .if1 .left))
 
 pub fill-ranks-spec : {M : Type 1} → statement M
 fill-ranks-spec =
@@ -109,6 +122,9 @@ fill-ranks-spec =
     (tie.spec
     Inv-loop
     μ-loop
+    mul-end
+    add-end
+    add-end-2
     sub-clear
     part-clear-start
     part-clear-end
