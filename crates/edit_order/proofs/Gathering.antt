@@ -13,15 +13,12 @@ use Rattle.sets.proofs.Order.{∪-iff, ∖-iff, single-iff}
 use Rattle.model.specs.Lists.{setAt}
 use Rattle.model.specs.Hierarchy.{directPermissions}
 use Rattle.model.specs.Coverage.{strikable, strikables}
-use Rattle.model.specs.Indexes.{rolesOfPermission}
 use Rattle.model.specs.Record.{built, Limits}
 use Rattle.model.specs.State.{State, rolesOf}
 use Rattle.model.proofs.Reading.{permission-iff, strikable-stands, strikables-iff}
 use Rattle.model.proofs.Building.{stands-below}
 use Rattle.model.proofs.Steps.{limits-ordered}
-use Rattle.tables.specs.Tables.{Holds}
-use Rattle.indexes.specs.Tables.{Indexed}
-use Rattle.edit_test.specs.Sparing.{HoldsFor}
+use Rattle.indexes.specs.Index.{HoldersFor, AllHolders, Indexed}
 use Rattle.edit_rows.proofs.Changing.{standing-read}
 
 -- what is found of them, and where the others are
@@ -30,18 +27,18 @@ pub record Gathered (st : State) (found rest : ℕ) : Type 0 where
   pub whole : (k : ℕ) → So (has (strikables (rolesOf st) (st .standing)) k) → So (has found k) ⊎ So (has rest k)
   pub standing : (k : ℕ) → So (has rest k) → So (has (st .standing) k)
 
--- what the tables are taken for
-pub record Told (st : State) (ws roles holders low users : List ℕ) : Type 0 where
+-- the record is that of the state, and the index that of its roles
+pub record Told (st : State) (ws index : List ℕ) : Type 0 where
   pub limits : Limits st
   pub record-built : ws ≡ built st
-  pub indexed : Indexed st low roles users
-  pub holding : Holds 2 (st .permissions) (rolesOfPermission (rolesOf st)) holders
+  pub indexed : Indexed (rolesOf st) index
+  pub holding : AllHolders (rolesOf st) index
 
-abbrev pub Gathering : List ℕ → List ℕ → List ℕ → ℕ → ℕ → Type 0
-Gathering ws roles holders found rest = (st : State) (low users : List ℕ) → Told st ws roles holders low users → Gathered st found rest
+abbrev pub Gathering : List ℕ → List ℕ → ℕ → ℕ → Type 0
+Gathering ws index found rest = (st : State) → Told st ws index → Gathered st found rest
 
-pub gathering-start : (ws roles holders : List ℕ) (found rest : ℕ) → found ≡ 0 → rest ≡ setAt 2 ws 4 → Gathering ws roles holders found rest
-gathering-start ws roles holders found rest ef er st low users told =
+pub gathering-start : (ws index : List ℕ) (found rest : ℕ) → found ≡ 0 → rest ≡ setAt 2 ws 4 → Gathering ws index found rest
+gathering-start ws index found rest ef er st told =
     let e : rest ≡ st .standing = er ∙ standing-read st (told .limits) ws (told .record-built) in
     let ρ = rolesOf st in
     record {
@@ -51,23 +48,20 @@ gathering-start ws roles holders found rest ef er st low users told =
     }
 
 -- the holders of all permissions are those of a role's direct permissions
-direct-held : (st : State) (holders : List ℕ) (k : ℕ) → Holds 2 (st .permissions) (rolesOfPermission (rolesOf st)) holders
-    → HoldsFor (directPermissions (rolesOf st) (st .standing) k) (rolesOfPermission (rolesOf st)) holders
-unfolding rolesOf
-direct-held st holders k h p t = h p (permission-iff (rolesOf st) (st .standing) k p .0 t .0)
+direct-held : (st : State) (index : List ℕ) (k : ℕ) → AllHolders (rolesOf st) index → HoldersFor (rolesOf st) (directPermissions (rolesOf st) (st .standing) k) index
+direct-held st index k h p t = h p (permission-iff (rolesOf st) (st .standing) k p .0 t .0)
 
-pub gathering-more : (ws roles holders : List ℕ) (found rest k : ℕ) (t : Bool) (found' rest' : ℕ) → Gathering ws roles holders found rest → So (has rest k)
-    → ((st : State) (low users : List ℕ) → Limits st → ws ≡ built st → Indexed st low roles users
-    → HoldsFor (directPermissions (rolesOf st) (st .standing) k) (rolesOfPermission (rolesOf st)) holders → So (has (st .standing) k)
-    → t ≡ strikable (rolesOf st) (st .standing) k)
-    → found' ≡ (if t then found ∪ single k else found) → rest' ≡ rest ∖ single k → Gathering ws roles holders found' rest'
-gathering-more ws roles holders found rest k t found' rest' inv there tells ef er st low users told =
-    let v = inv st low users told in
+pub gathering-more : (ws index : List ℕ) (found rest k : ℕ) (t : Bool) (found' rest' : ℕ) → Gathering ws index found rest → So (has rest k)
+    → ((st : State) → Limits st → ws ≡ built st → Indexed (rolesOf st) index → HoldersFor (rolesOf st) (directPermissions (rolesOf st) (st .standing) k) index
+    → So (has (st .standing) k) → t ≡ strikable (rolesOf st) (st .standing) k)
+    → found' ≡ (if t then found ∪ single k else found) → rest' ≡ rest ∖ single k → Gathering ws index found' rest'
+gathering-more ws index found rest k t found' rest' inv there tells ef er st told =
+    let v = inv st told in
     let ρ = rolesOf st in
     let R = st .standing in
     let stands = v .standing k there in
     let lk = stands-below ρ R (limits-ordered st (told .limits)) k stands in
-    let e : t ≡ strikable ρ R k = tells st low users (told .limits) (told .record-built) (told .indexed) (direct-held st holders k (told .holding)) stands in
+    let e : t ≡ strikable ρ R k = tells st (told .limits) (told .record-built) (told .indexed) (direct-held st index k (told .holding)) stands in
     let on : (j : ℕ) → So (has rest' j) → So (has R j) = λ j x. v .standing j (∖-iff rest (single k) j .0 (rw er at x) .0) in
     by-test t
     (λ y.
@@ -102,10 +96,9 @@ gathering-more ws roles holders found rest k t found' rest' inv there tells ef e
       standing = on;
     })
 
-pub gathering-all : (ws roles holders : List ℕ) (found rest : ℕ) → Gathering ws roles holders found rest → rest ≡ 0
-    → (st : State) (low users : List ℕ) → Limits st → ws ≡ built st → Indexed st low roles users
-    → Holds 2 (st .permissions) (rolesOfPermission (rolesOf st)) holders → found ≡ strikables (rolesOf st) (st .standing)
-gathering-all ws roles holders found rest inv e st low users lim eb ix held =
-    let v = inv st low users (record { limits = lim; record-built = eb; indexed = ix; holding = held }) in
+pub gathering-all : (ws index : List ℕ) (found rest : ℕ) → Gathering ws index found rest → rest ≡ 0
+    → (st : State) → Limits st → ws ≡ built st → Indexed (rolesOf st) index → AllHolders (rolesOf st) index → found ≡ strikables (rolesOf st) (st .standing)
+gathering-all ws index found rest inv e st lim eb ix held =
+    let v = inv st (record { limits = lim; record-built = eb; indexed = ix; holding = held }) in
     same-set found (strikables (rolesOf st) (st .standing)) (v .right)
     (λ k t. ⊎-elim (λ x. x) (λ x. absurd (So-not (has-zero k) (rw e at x))) (v .whole k t))

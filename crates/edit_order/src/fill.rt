@@ -1,14 +1,14 @@
 // What an elimination's redundancies are computed from: it changes with the crew list only, so once is enough.
 ghost use mathlib.Core.Path.{_≡_};
 ghost use Prim.Native.Nat.{ℕ, _+_, _*_, _≤_};
-ghost use lib.ListN.{length, take, drop};
+ghost use lib.ListN.{length, take};
 ghost use Rattle.sets.specs.Sets.{_∪_, single};
 ghost use Rattle.model.specs.Hierarchy.{Roles, candidateCount};
-ghost use Rattle.model.specs.Indexes.{rolesOfPermission, downFrom, upFrom};
+ghost use Rattle.model.specs.Indexes.{downFrom, upFrom};
 ghost use Rattle.model.specs.Lists.{setAt};
-ghost use Rattle.tables.specs.Tables.{Holds, Filled};
+ghost use Rattle.tables.specs.Tables.{Filled};
 ghost use Rattle.hierarchy.specs.Tables.{Numbered};
-ghost use Rattle.indexes.specs.Index.{indexLength, holdersStart, Indexed};
+ghost use Rattle.indexes.specs.Index.{indexLength, Indexed, AllHolders};
 ghost use Rattle.edit_order.specs.Work.{workLength, downStart, upStart, samplesStart, HoldsAt, Unchanged, Sampled, Prepared, Placed};
 use crate::further::fill_further;
 use crate::holders::first_holders;
@@ -80,7 +80,7 @@ pub fn fill_order(index: &[u64], m: usize, c: usize, work: &mut [u64])
     requires { ⌜ c ≤ 128 ⌝ }
     requires { ⌜ length (now work) ≡ workLength ⌝ }
     ensures { λ r. ⌜ take downStart (now (work .exit)) ≡ take downStart (now (work .entry)) ⌝ }
-    ensures { λ r. ⌜ ((ρ : Roles) → candidateCount ρ ≡ c → ρ .permissions ≡ m → Numbered ρ → Indexed ρ (now (index .entry)) → Holds 2 m (rolesOfPermission ρ) (take 512 (drop holdersStart (now (index .entry)))) → Prepared ρ (now (work .exit))) ⌝ }
+    ensures { λ r. ⌜ ((ρ : Roles) → candidateCount ρ ≡ c → ρ .permissions ≡ m → Numbered ρ → Indexed ρ (now (index .entry)) → AllHolders ρ (now (index .entry)) → Prepared ρ (now (work .exit))) ⌝ }
 {
     fill_reach(index, c, work);
     let count = fill_samples(index, c, work);

@@ -1,18 +1,15 @@
 // The roles that an elimination begins with.
 ghost use mathlib.Core.Path.{_≡_};
-ghost use mathlib.Core.List.{List};
-ghost use Prim.Native.Nat.{ℕ, _<_};
+ghost use Prim.Native.Nat.{_<_};
 ghost use lib.ListN.{length};
 ghost use Rattle.sets.specs.Held.{set128};
 ghost use Rattle.sets.specs.Sets.{_∪_, single};
 ghost use Rattle.sets.specs.Truth.{if_then_else_};
 ghost use Rattle.model.specs.Coverage.{strikables};
-ghost use Rattle.model.specs.Indexes.{rolesOfPermission};
 ghost use Rattle.model.specs.Record.{recordLength, built, Limits};
 ghost use Rattle.model.specs.State.{State, rolesOf};
-ghost use Rattle.tables.specs.Tables.{Holds};
-ghost use Rattle.indexes.specs.Tables.{Indexed};
-use edit_rows::removable;
+ghost use Rattle.indexes.specs.Index.{indexLength, Indexed, AllHolders};
+use edit_test::removable;
 use hierarchy::lowest_item;
 use sets::Set128;
 use tables::STANDING;
@@ -30,15 +27,16 @@ fn with_strikable(found: Set128, k: usize, strikable: bool) -> Set128
 }
 
 // The strikable roles of a record. Only a standing role can be strikable, so the others are not asked about.
-pub fn strikable_roles(rec: &[u64], roles: &[u64], holders: &[u64]) -> Set128
-    requires { ⌜ (length (now rec) ≡ recordLength) × (length (now roles) ≡ 256) × (length (now holders) ≡ 512) ⌝ }
-    ensures { λ r. ⌜ ((st : State) (low users : List ℕ) → Limits st → now (rec .entry) ≡ built st → Indexed st low (now (roles .entry)) users → Holds 2 (st .permissions) (rolesOfPermission (rolesOf st)) (now (holders .entry)) → set128 r ≡ strikables (rolesOf st) (st .standing)) ⌝ }
+pub fn strikable_roles(rec: &[u64], index: &[u64]) -> Set128
+    requires { ⌜ length (now rec) ≡ recordLength ⌝ }
+    requires { ⌜ length (now index) ≡ indexLength ⌝ }
+    ensures { λ r. ⌜ ((st : State) → Limits st → now (rec .entry) ≡ built st → Indexed (rolesOf st) (now (index .entry)) → AllHolders (rolesOf st) (now (index .entry)) → set128 r ≡ strikables (rolesOf st) (st .standing)) ⌝ }
 {
     let mut found = Set128::empty();
     let mut rest = load128(rec, STANDING);
     while !rest.is_empty() {
         let k = lowest_item(rest);
-        found = with_strikable(found, k, removable(rec, roles, holders, k));
+        found = with_strikable(found, k, removable(rec, index, k));
         rest = rest.remove(k);
     }
     found

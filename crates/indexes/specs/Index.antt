@@ -44,6 +44,10 @@ RoleUsers ρ ws = Holds 2 (candidateCount ρ) (authorisedUsers ρ) (take 256 (dr
 abbrev pub HoldersFor : Roles → ℕ → List ℕ → Type 0
 HoldersFor ρ s ws = (p : ℕ) → So (has s p) → setAt 2 (take 512 (drop holdersStart ws)) (2 * p) ≡ rolesOfPermission ρ p
 
+-- the same of every permission
+abbrev pub AllHolders : Roles → List ℕ → Type 0
+AllHolders ρ ws = Holds 2 (ρ .permissions) (rolesOfPermission ρ) (take 512 (drop holdersStart ws))
+
 -- the index of these roles. The holders of permissions are filled by those who ask for them.
 pub record Indexed (ρ : Roles) (ws : List ℕ) : Type 0 where
   pub size : length ws ≡ indexLength

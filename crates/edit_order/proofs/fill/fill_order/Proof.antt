@@ -61,7 +61,7 @@ returns c =
       λ ρ ec em numbered ix held.
           prepared w1 w2 w3 _ _ size kept2 kept3 stored _ (narrow holders) ρ (numbered .few) (reach .fill-reach .ensures .1 ρ ec numbered ix)
           (samples .fill-samples .ensures .1 .1 ρ ec ix) (λ found. further .fill-further .ensures .1 ρ found (numbered .few))
-          (first-found ρ _ _ _ (numbered .few) em held (holders .first-holders .ensures)),
+          (first-found ρ _ _ _ (numbered .few) em (λ p l. held p (rw em l)) (holders .first-holders .ensures)),
     )
 
 pub fill-order-spec : {M : Type 1} → statement M

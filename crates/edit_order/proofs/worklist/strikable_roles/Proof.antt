@@ -9,10 +9,10 @@ use Rattle.edit_order.proofs.worklist.strikable_roles.Statement.{statem
 use Rattle.edit_order.proofs.worklist.strikable_roles.Tie as tie
 
 abbrev Inv-loop : tie.InvT-loop
-Inv-loop rec roles holders found₀ rest₀ found rest = Gathering rec roles holders (set128 found) (set128 rest)
+Inv-loop rec index found₀ rest₀ found rest = Gathering rec index (set128 found) (set128 rest)
 
 abbrev μ-loop : tie.MeasureT-loop
-μ-loop rec roles holders found₀ rest₀ found rest = ones (set128 rest)
+μ-loop rec index found₀ rest₀ found rest = ones (set128 rest)
 
 empty-requires : tie.Need-empty-requires Inv-loop μ-loop
 empty-requires c κs = search needs
@@ -21,7 +21,7 @@ load128-requires : tie.Need-load128-requires Inv-loop μ-loop
 load128-requires c κs = search needs
 
 loop-holds : tie.Need-loop-holds Inv-loop μ-loop
-loop-holds c = gathering-start _ _ _ _ _ (c .before .empty .ensures) (c .load128 .ensures)
+loop-holds c = gathering-start _ _ _ _ (c .before .empty .ensures) (c .load128 .ensures)
 
 is-empty-requires : tie.Need-is-empty-requires Inv-loop μ-loop
 is-empty-requires c κs = search needs
@@ -30,7 +30,7 @@ lowest-item-requires : tie.Need-lowest-item-requires Inv-loop μ-loop
 lowest-item-requires c κs = not-empty _ _ (c .before .is-empty .ensures) (c .if1 .taken)
 
 removable-requires : tie.Need-removable-requires Inv-loop μ-loop
-removable-requires c κs = (search needs, search needs, search needs, c .lowest-item .ensures .small)
+removable-requires c κs = (search needs, (search needs, c .lowest-item .ensures .small))
 
 with-strikable-requires : tie.Need-with-strikable-requires Inv-loop μ-loop
 with-strikable-requires c κs = c .before .lowest-item .ensures .small
@@ -43,10 +43,10 @@ loop-less c = rw (c .remove .ensures) (fewer _ _ (c .before .before .before .low
 
 loop-again : tie.Need-loop-again Inv-loop μ-loop
 loop-again c =
-    gathering-more _ _ _ _ _ _ _ _ _ (c .before .before .before .before .before .before .loop .inv) (c .before .before .before .lowest-item .ensures .there) (c .before .before .removable .ensures) (c .before .with-strikable .ensures) (c .remove .ensures)
+    gathering-more _ _ _ _ _ _ _ _ (c .before .before .before .before .before .before .loop .inv) (c .before .before .before .lowest-item .ensures .there) (c .before .before .removable .ensures) (c .before .with-strikable .ensures) (c .remove .ensures)
 
 returns : tie.Need-returns Inv-loop μ-loop
-returns c = gathering-all _ _ _ _ _ (c .before .before .loop .inv) (is-empty _ _ (c .before .is-empty .ensures) (c .if1 .left))
+returns c = gathering-all _ _ _ _ (c .before .before .loop .inv) (is-empty _ _ (c .before .is-empty .ensures) (c .if1 .left))
 
 pub strikable-roles-spec : {M : Type 1} → statement M
 strikable-roles-spec =
