@@ -18,9 +18,10 @@ use Rattle.model.specs.Record.{stateOf}
 use Rattle.model.specs.State.{State, rolesOf, standingNow}
 use Rattle.model.proofs.Steps.{standing-now}
 use Rattle.edit_trials.specs.declared.progress.Progress.{Progress}
-use Rattle.edit_trials.specs.Trying.{runAt, Kin, Ready, Going}
-use Rattle.edit_trials.proofs.Moving.{roles-count, ready-few}
-use Rattle.edit_trials.proofs.Runs.{kin-same, kin-trans, kin-roles, kin-count}
+use Rattle.rows.specs.Linked.{Ready}
+use Rattle.edit_trials.specs.Trying.{runAt, Kin, Going}
+use Rattle.edit_trials.proofs.Runs.{roles-count, ready-few, kin-same, kin-trans, kin-roles, kin-count}
+use Rattle.edit_review.specs.Reviewing.{Stepped}
 
 -- ---- one candidate
 
@@ -112,23 +113,20 @@ passes-none ρ w r = refl
 
 -- ---- the pass as the code walks it: mid and g are what the candidates below k have left
 
-pub record Passing (ws low users : List ℕ) (w : Weights) (at : Progress) (mid : List ℕ) (g : Progress) (k : ℕ) : Type 0 where
-  pub going : Going mid low users g
-  pub kin : Kin (stateOf ws) mid
-  pub run : (worklist : ℕ) → runAt mid g worklist ≡ reviewTo (rolesOf (stateOf ws)) w k (runAt ws at worklist)
+abbrev pub Passing : (ws index : List ℕ) (w : Weights) (at : Progress) (mid seniors : List ℕ) (g : Progress) (k : ℕ) → Type 0
+Passing ws index w at mid seniors g k = Stepped (reviewTo (rolesOf (stateOf ws)) w k) ws at mid index seniors g
 
-pub passing-start : (ws low users : List ℕ) (w : Weights) (at : Progress) → Going ws low users at → Passing ws low users w at ws at 0
-passing-start ws low users w at g = record { going = g; kin = kin-same ws; run = pass-none ws at w }
+pub passing-start : (ws index seniors : List ℕ) (w : Weights) (at : Progress) → Going ws index seniors at → Passing ws index w at ws seniors at 0
+passing-start ws index seniors w at g = record { going = g; kin = kin-same ws; run = pass-none ws at w }
 
-module _ (ws low users : List ℕ) (w : Weights) (at : Progress) (mid : List ℕ) (g : Progress) (k : ℕ) (p : Passing ws low users w at mid g k) where
-  pub passing-more : (after : List ℕ) (r : Progress)
-      → Going after low users r × Kin (stateOf mid) after × ((worklist : ℕ) → runAt after r worklist ≡ tryRestore (rolesOf (stateOf mid)) w k (runAt mid g worklist))
-      → Passing ws low users w at after r (k + 1)
-  passing-more after r t =
+module _ (ws index : List ℕ) (w : Weights) (at : Progress) (mid seniors : List ℕ) (g : Progress) (k : ℕ) (p : Passing ws index w at mid seniors g k) where
+  pub passing-more : (after seniors' : List ℕ) (r : Progress) → Stepped (tryRestore (rolesOf (stateOf mid)) w k) mid g after index seniors' r
+      → Passing ws index w at after seniors' r (k + 1)
+  passing-more after seniors' r t =
       record {
-        going = t .0;
-        kin = kin-trans (stateOf ws) mid after (p .kin) (t .1);
-        run = pass-more ws mid after at g r w k (kin-roles (stateOf ws) mid (p .kin)) (p .run) (t .2);
+        going = t .going;
+        kin = kin-trans (stateOf ws) mid after (p .kin) (t .kin);
+        run = pass-more ws mid after at g r w k (kin-roles (stateOf ws) mid (p .kin)) (p .run) (t .run);
       }
 
   pub passing-bound : (g .changed ≤ at .changed + k) × (g .examined ≤ at .examined + k)
@@ -139,8 +137,8 @@ module _ (ws low users : List ℕ) (w : Weights) (at : Progress) (mid : List ℕ
       let examined : g .examined ≡ reviewTo (rolesOf (stateOf ws)) w k (runAt ws at 0) .examined = ap (λ (x : Run). x .examined) (p .run 0) in
       (rw changed (b .0), rw examined (b .1))
 
-  pub passing-count : Going ws low users at → getD mid 2 0 ≡ getD ws 2 0
-  passing-count a = kin-count ws low users mid low users (a .ready) (p .going .ready) (p .kin)
+  pub passing-count : (seniors₀ : List ℕ) → Going ws index seniors₀ at → getD mid 2 0 ≡ getD ws 2 0
+  passing-count seniors₀ a = kin-count ws index seniors₀ mid index seniors (a .ready) (p .going .ready) (p .kin)
 
 -- ---- all passes as the code makes them: mid and g are what the passes before have left, and `left` more may follow
 
@@ -149,19 +147,19 @@ pub begun : (ws : List ℕ) (g : Progress) (w : Weights) → g .quality ≡ qual
 unfolding runAt begin
 begun ws g w eq ec ee = λ i. record { standing = stateOf ws .standing; worklist = 0; reference = eq i; changed = ec i; examined = ee i }
 
-pub record Running (ws low users : List ℕ) (w : Weights) (mid : List ℕ) (g : Progress) (left : ℕ) : Type 0 where
-  pub going : Going mid low users g
+pub record Running (ws index : List ℕ) (w : Weights) (mid seniors : List ℕ) (g : Progress) (left : ℕ) : Type 0 where
+  pub going : Going mid index seniors g
   pub kin : Kin (stateOf ws) mid
   pub rest : reviewed (rolesOf (stateOf ws)) w (stateOf ws .standing) ≡ reviewPasses (rolesOf (stateOf ws)) w left (runAt mid g 0)
   pub changed : g .changed + 128 * left ≤ 16512
   pub examined : g .examined + 128 * left ≤ 16512
 
-pub running-start : (ws low users : List ℕ) (w : Weights) (g : Progress) (left : ℕ) → Going ws low users g → g .quality ≡ quality (rolesOf (stateOf ws)) w (stateOf ws .standing)
-    → g .changed ≡ 0 → g .examined ≡ 0 → left ≡ getD ws 2 0 + 1 → Running ws low users w ws g left
+pub running-start : (ws index seniors : List ℕ) (w : Weights) (g : Progress) (left : ℕ) → Going ws index seniors g → g .quality ≡ quality (rolesOf (stateOf ws)) w (stateOf ws .standing)
+    → g .changed ≡ 0 → g .examined ≡ 0 → left ≡ getD ws 2 0 + 1 → Running ws index w ws seniors g left
 unfolding reviewed
-running-start ws low users w g left going eq ec ee el =
-    let f = ready-few ws low users (going .ready) in
-    let n : left ≡ suc (candidateCount (rolesOf (stateOf ws))) = el ∙ add-one (getD ws 2 0) ∙ ap suc (sym (roles-count ws low users (going .ready) 0)) in
+running-start ws index seniors w g left going eq ec ee el =
+    let f = ready-few ws index seniors (going .ready) in
+    let n : left ≡ suc (candidateCount (rolesOf (stateOf ws))) = el ∙ add-one (getD ws 2 0) ∙ ap suc (sym (roles-count ws index seniors (going .ready))) in
     record {
       going = going;
       kin = kin-same ws;
@@ -170,25 +168,30 @@ running-start ws low users w g left going eq ec ee el =
       examined = omega arith;
     }
 
-module _ (ws low users : List ℕ) (w : Weights) (mid : List ℕ) (g : Progress) (left : ℕ) (p : Running ws low users w mid g left) (some : 0 < left)
-    (after : List ℕ) (r : Progress)
-    (t : Going after low users r × Kin (stateOf mid) after × ((worklist : ℕ) → runAt after r worklist ≡ reviewTo (rolesOf (stateOf mid)) w (getD mid 2 0) (runAt mid g worklist))) where
+-- what a review leaves
+abbrev pub Ended : (ws index : List ℕ) (w : Weights) (after seniors : List ℕ) (r : Progress) → Type 0
+Ended ws index w after seniors r =
+    Ready (stateOf after) after index seniors × (Kin (stateOf ws) after × (runAt after r 0 ≡ reviewed (rolesOf (stateOf ws)) w (stateOf ws .standing)))
+
+module _ (ws index : List ℕ) (w : Weights) (mid seniors : List ℕ) (g : Progress) (left : ℕ) (p : Running ws index w mid seniors g left) (some : 0 < left)
+    (after seniors' : List ℕ) (r : Progress) (t : Stepped (reviewTo (rolesOf (stateOf mid)) w (getD mid 2 0)) mid g after index seniors' r) where
   next-run : runAt after r 0 ≡ reviewTo (rolesOf (stateOf ws)) w (candidateCount (rolesOf (stateOf ws))) (runAt mid g 0)
-  next-run = rw (sym (roles-count mid low users (p .going .ready) 0), kin-roles (stateOf ws) mid (p .kin)) at (t .2 0)
+  next-run = rw (sym (roles-count mid index seniors (p .going .ready)), kin-roles (stateOf ws) mid (p .kin)) at (t .run 0)
 
   one-less : left ≡ suc (left - 1)
   one-less = omega arith
 
-  pub running-last : r .changed ≡ g .changed
-      → Ready after low users × Kin (stateOf ws) after × (runAt after r 0 ≡ reviewed (rolesOf (stateOf ws)) w (stateOf ws .standing))
+  pub running-last : r .changed ≡ g .changed → Ended ws index w after seniors' r
   unfolding runAt
   running-last e = (
-    t .0 .ready,
-    kin-trans (stateOf ws) mid after (p .kin) (t .1),
-    sym (p .rest ∙ ap (λ (n : ℕ). reviewPasses (rolesOf (stateOf ws)) w n (runAt mid g 0)) one-less ∙ passes-last (rolesOf (stateOf ws)) w (left - 1) (runAt mid g 0) (runAt after r 0) next-run e),
+    t .going .ready,
+    (
+      kin-trans (stateOf ws) mid after (p .kin) (t .kin),
+      sym (p .rest ∙ ap (λ (n : ℕ). reviewPasses (rolesOf (stateOf ws)) w n (runAt mid g 0)) one-less ∙ passes-last (rolesOf (stateOf ws)) w (left - 1) (runAt mid g 0) (runAt after r 0) next-run e),
+    ),
   )
 
-  pub running-more : (r .changed ≡ g .changed → ⊥) → Running ws low users w after r (left - 1)
+  pub running-more : (r .changed ≡ g .changed → ⊥) → Running ws index w after seniors' r (left - 1)
   unfolding runAt
   running-more d =
       let b = pass-counts (rolesOf (stateOf ws)) w (candidateCount (rolesOf (stateOf ws))) (runAt mid g 0) in
@@ -198,14 +201,13 @@ module _ (ws low users : List ℕ) (w : Weights) (mid : List ℕ) (g : Progress)
       let pc = p .changed in
       let pe = p .examined in
       record {
-        going = t .0;
-        kin = kin-trans (stateOf ws) mid after (p .kin) (t .1);
+        going = t .going;
+        kin = kin-trans (stateOf ws) mid after (p .kin) (t .kin);
         rest = p .rest ∙ ap (λ (n : ℕ). reviewPasses (rolesOf (stateOf ws)) w n (runAt mid g 0)) one-less ∙ passes-on (rolesOf (stateOf ws)) w (left - 1) (runAt mid g 0) (runAt after r 0) next-run d;
         changed = omega arith;
         examined = omega arith;
       }
 
-pub running-out : (ws low users : List ℕ) (w : Weights) (mid : List ℕ) (g : Progress) (left : ℕ) → Running ws low users w mid g left → left ≡ 0
-    → Ready mid low users × Kin (stateOf ws) mid × (runAt mid g 0 ≡ reviewed (rolesOf (stateOf ws)) w (stateOf ws .standing))
-running-out ws low users w mid g left p e =
-    (p .going .ready, p .kin, sym (p .rest ∙ ap (λ (n : ℕ). reviewPasses (rolesOf (stateOf ws)) w n (runAt mid g 0)) e ∙ passes-none (rolesOf (stateOf ws)) w (runAt mid g 0)))
+pub running-out : (ws index : List ℕ) (w : Weights) (mid seniors : List ℕ) (g : Progress) (left : ℕ) → Running ws index w mid seniors g left → left ≡ 0 → Ended ws index w mid seniors g
+running-out ws index w mid seniors g left p e =
+    (p .going .ready, (p .kin, sym (p .rest ∙ ap (λ (n : ℕ). reviewPasses (rolesOf (stateOf ws)) w n (runAt mid g 0)) e ∙ passes-none (rolesOf (stateOf ws)) w (runAt mid g 0))))

@@ -1,7 +1,7 @@
 -- A record in a run: its own state, the quality that its counts give, and a change that is weighed before it is written.
 -- Assumes nothing.
 use mathlib.Core.Path.{_≡_, refl, sym, _∙_, ap, subst}
-use mathlib.Core.Bool.{Bool, So}
+use mathlib.Core.Bool.{Bool}
 use mathlib.Core.List.{List}
 use Prim.Native.Nat.{ℕ, _^_, _≤_, _<_}
 use native.Mathlib.Nat.{lt-of-lt-of-le}
@@ -18,18 +18,11 @@ use Rattle.model.proofs.Steps.{roles-now, standing-now, limits-now, now-now, no
 use Rattle.rows.specs.Linked.{Ready}
 use Rattle.edit_rows.proofs.Changing.{count, few, standing-read}
 use Rattle.quality.specs.declared.counts.Counts.{Counts}
-use Rattle.quality.specs.Numbers.{countsIn, weightsOf, Few, weightsIn}
+use Rattle.quality.specs.Numbers.{countsIn, Few, weightsIn}
 use Rattle.edit_trials.specs.declared.progress.Progress.{Progress}
 use Rattle.quality.specs.declared.weights.Weights.{Weights}
 use Rattle.edit_trials.specs.Trying.{Exact, Kin, Going}
 use Rattle.edit_trials.proofs.Counting.{exact-few}
-
-pub weights-in : (w : Weights) → weightsIn w ≡ weightsOf (w .role) (w .member) (w .permission) (w .link)
-unfolding weightsIn weightsOf
-weights-in w = refl
-
-pub weights-in-allowed : (w : Weights) → So (model.weightsAllowed (weightsIn w)) → So (model.weightsAllowed (weightsOf (w .role) (w .member) (w .permission) (w .link)))
-weights-in-allowed w h = rw (sym (weights-in w)) h
 
 -- ---- a record that is ready, for whatever state, is so for its own
 
@@ -67,9 +60,9 @@ module _ (ws index seniors : List ℕ) (ready : Ready (stateOf ws) ws index seni
 
 -- and give the quality of the record's standing set
 pub weighed : (ws : List ℕ) (q : Counts) (w : Weights) (x : ℕ) → Exact ws q
-    → x ≡ model.weigh (weightsOf (w .role) (w .member) (w .permission) (w .link)) (countsIn q) → x ≡ model.quality (rolesOf (stateOf ws)) (weightsIn w) (stateOf ws .standing)
+    → x ≡ model.weigh (weightsIn w) (countsIn q) → x ≡ model.quality (rolesOf (stateOf ws)) (weightsIn w) (stateOf ws .standing)
 unfolding model.quality
-weighed ws q w x e ex = ex ∙ rw (weights-in w, e) refl
+weighed ws q w x e ex = ex ∙ rw e refl
 
 -- ---- kin
 
@@ -104,10 +97,10 @@ module _ (ws index seniors : List ℕ) (ready : Ready (stateOf ws) ws index seni
   pub trial-few : Few q
   trial-few = exact-few (standingNow (stateOf ws) S) (limits-now (stateOf ws) S (ready .limits) below) q (rw (roles-now (stateOf ws) S, standing-now (stateOf ws) S) e)
 
-  pub trial-weighed : (w : Weights) (x : ℕ) → x ≡ model.weigh (weightsOf (w .role) (w .member) (w .permission) (w .link)) (countsIn q)
+  pub trial-weighed : (w : Weights) (x : ℕ) → x ≡ model.weigh (weightsIn w) (countsIn q)
       → x ≡ model.quality (rolesOf (stateOf ws)) (weightsIn w) S
   unfolding model.quality
-  trial-weighed w x ex = ex ∙ rw (weights-in w, e) refl
+  trial-weighed w x ex = ex ∙ rw e refl
 
   -- written, it is what was weighed
   module _ (after seniors' : List ℕ) (made : Ready (standingNow (stateOf ws) S) after index seniors') where

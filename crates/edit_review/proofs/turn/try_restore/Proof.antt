@@ -1,13 +1,46 @@
 -- Three ways: the candidate stands; its return is kept; nothing is written.
 -- Assumes nothing.
-use mathlib.Core.Path.{refl, sym, _∙_}
-use native.Mathlib.Omega.{arith}
 use borrow.Author.Needs.{needs}
-use Rattle.edit_trials.proofs.Moving.{ready-few}
-use Rattle.edit_trials.proofs.Runs.{weights-in-allowed, stands-read, kin-same, kin-now, going-back, number-known, tried-few, tried-weighed, tried-state, tried-going}
+use mathlib.Core.Path.{_≡_, refl, sym, _∙_}
+use mathlib.Core.List.{List}
+use Prim.Native.Nat.{ℕ}
+use native.Mathlib.Omega.{arith}
+use Rattle.sets.specs.Sets.{_∪_, single}
+use Rattle.model.specs.Quality.{quality}
+use Rattle.model.specs.Record.{stateOf}
+use Rattle.model.specs.State.{rolesOf}
+use Rattle.quality.specs.Numbers.{weightsIn}
+use Rattle.edit_trials.specs.Trying.{Restorable}
+use Rattle.edit_trials.proofs.Runs.{stands-read, kin-same, kin-now, going-back, number-known, restore-below, trial-few, trial-weighed, trial-state, trial-going}
 use Rattle.edit_review.proofs.Turns.{turn-stands, turn-restored, turn-kept}
 use Rattle.edit_review.proofs.turn.try_restore.Statement.{statement}
 use Rattle.edit_review.proofs.turn.try_restore.Tie as tie
+
+-- the record where the candidate is taken up
+abbrev record-of : tie.Else1 → List ℕ
+record-of c = c .before .before .before .before .before .before .before .args .rec .now
+
+-- an absent candidate
+restorable : (c : tie.Else1) → Restorable (stateOf (record-of c)) (record-of c) (c .before .before .before .before .before .before .before .args .index .now) (c .before .before .before .before .before .before .before .args .k)
+restorable c =
+    let given = c .before .before .before .before .before .before .before .pre in
+    let ready = given .0 .ready in
+    record {
+      limits = ready .limits;
+      afresh = ready .afresh;
+      indexed = ready .indexed;
+      candidate = number-known _ _ _ ready _ (given .1 .1 .0) .0;
+      absent = sym (stands-read _ _ _ ready _ _ _ (c .before .before .load128 .ensures) (c .before .contains .ensures)) ∙ c .if1 .left;
+    }
+
+-- the quality with it, weighed
+abbrev weighed-with : tie.After-weigh → Type 0
+weighed-with c = c .weigh .result ≡ quality (rolesOf (stateOf (record-of (c .before .before .before .before .before)))) (weightsIn (c .before .before .before .before .before .before .before .before .before .before .before .before .args .w)) (stateOf (record-of (c .before .before .before .before .before)) .standing ∪ single (c .before .before .before .before .before .before .before .before .before .before .before .before .args .k))
+
+weighed : (c : tie.After-weigh) → weighed-with c
+weighed c =
+    let ready = c .before .before .before .before .before .before .before .before .before .before .before .before .pre .0 .ready in
+    trial-weighed _ _ _ ready _ (restore-below _ _ _ ready _ (restorable (c .before .before .before .before .before) .candidate)) _ (c .before .before .if-restored .ensures .counts) _ _ (c .weigh .ensures .0)
 
 load128-requires : tie.Need-load128-requires
 load128-requires c κs = search needs
@@ -21,65 +54,67 @@ same-length c = search needs
 returns : tie.Need-returns
 returns c =
     let given = c .before .before .before .before .before .before .before .pre in
-    (given .4, kin-same _, turn-stands _ _ _ _ (sym (stands-read _ _ _ _ _ _ (given .4 .ready) (c .before .before .load128 .ensures) (c .before .contains .ensures)) ∙ c .if1 .taken))
+    record {
+      going = given .0;
+      kin = kin-same _;
+      run = turn-stands _ _ _ _ (sym (stands-read _ _ _ (given .0 .ready) _ _ _ (c .before .before .load128 .ensures) (c .before .contains .ensures)) ∙ c .if1 .taken);
+    }
 
 if-restored-requires : tie.Need-if-restored-requires
 if-restored-requires c κs =
     let given = c .before .before .before .before .before .before .before .before .before .pre in
-    let known = number-known _ _ _ _ (given .4 .ready) (given .3) in
-    (given .0, given .1, given .2, known .1, given .4 .ready, given .4 .exact, known .0, sym (stands-read _ _ _ _ _ _ (given .4 .ready) (c .before .before .before .before .load128 .ensures) (c .before .before .before .contains .ensures)) ∙ c .before .before .if1 .left)
+    let room = given .1 .1 .1 .1 in
+    (restorable (c .before .before), (given .0 .exact, (number-known _ _ _ (given .0 .ready) _ (given .1 .1 .0) .1, (room .0, room .1))))
 
 weigh-requires : tie.Need-weigh-requires
 weigh-requires c κs =
-    let given = c .before .before .before .before .before .before .before .before .before .before .before .before .before .pre in
-    let known = number-known _ _ _ _ (given .4 .ready) (given .3) in
-    (tried-few _ _ _ (given .4 .ready) _ (known .0) _ (c .before .before .before .if-restored .ensures .counts), weights-in-allowed _ (given .5))
-
-add-changed : tie.Need-add-changed
-add-changed c = let l = c .before .before .before .before .before .before .before .before .before .before .before .before .before .before .before .pre .6 in omega arith
+    let given = c .before .before .before .before .before .before .before .before .before .before .before .pre in
+    let ready = given .0 .ready in
+    (trial-few _ _ _ ready _ (restore-below _ _ _ ready _ (restorable (c .before .before .before .before) .candidate)) _ (c .before .if-restored .ensures .counts), given .1 .0)
 
 add-examined : tie.Need-add-examined
-add-examined c = let l = c .before .before .before .before .before .before .before .before .before .before .before .before .before .before .before .before .pre .7 in omega arith
+add-examined c = let l = c .before .before .before .before .before .before .before .before .before .before .before .before .before .pre .1 .1 .1 .0 .1 in omega arith
 
 put-back-at-requires : tie.Need-put-back-at-requires
 put-back-at-requires c κs =
-    let tested = c .before .before in
-    let given = tested .before .before .before .before .before .before .before .before .before .before .before .before .before .before .before .before .before .pre in
-    (given .0, given .1, given .2, number-known _ _ _ _ (given .4 .ready) (given .3) .1, ready-few _ _ _ (given .4 .ready))
+    let given = c .before .before .before .before .before .before .before .before .before .before .before .before .before .before .before .before .before .pre in
+    let room = given .1 .1 .1 .1 in
+    (room .0, (room .1, (room .2, number-known _ _ _ (given .0 .ready) _ (given .1 .1 .0) .1)))
+
+add-t24 : tie.Need-add-t24
+add-t24 c = let l = c .before .before .before .before .before .before .before .before .before .before .before .before .before .before .before .before .before .before .before .before .before .before .before .pre .1 .1 .1 .0 .0 in omega arith
 
 same-length-2 : tie.Need-same-length-2
 same-length-2 c = search needs
 
-returns-2 : tie.Need-returns-2
-returns-2 c =
-    let kept = c .before .before .before .before in
-    let tested = kept .before in
-    let given = tested .before .before .before .before .before .before .before .before .before .before .before .before .before .before .before .before .before .pre in
-    let ready = given .4 .ready in
-    let known = number-known _ _ _ _ ready (given .3) in
-    let absent = sym (stands-read _ _ _ _ _ _ (given .4 .ready) (tested .before .before .before .before .before .before .before .before .before .before .before .before .load128 .ensures) (tested .before .before .before .before .before .before .before .before .before .before .before .contains .ensures)) ∙ tested .before .before .before .before .before .before .before .before .before .before .if1 .left in
-    let trial = tested .before .before .before .before .before .before .before .if-restored .ensures in
-    let written = c .before .before .put-back-at .ensures _ (ready .roles) (ready .limits) (ready .afresh) (ready .indexed) (known .0) absent (trial .seniors) (trial .juniors) in
-    let now = tried-state _ _ _ ready _ (known .0) _ (trial .counts) _ written in (
-      tried-going _ _ _ ready _ (known .0) _ (trial .counts) _ written _ refl,
-      kin-now _ _ _ now,
-      turn-restored _ _ _ _ absent _ (tried-weighed _ _ _ ready _ (known .0) _ (trial .counts) _ _ (tested .before .before .before .weigh .ensures .0)) (kept .if2 .taken) _ _ now refl refl refl,
-    )
-
 same-length-3 : tie.Need-same-length-3
 same-length-3 c = search needs
 
+returns-2 : tie.Need-returns-2
+returns-2 c =
+    let kept = c .before .before .before .before .before .before .before .before in
+    let ready = kept .before .before .before .before .before .before .before .before .before .before .before .before .before .before .before .pre .0 .ready in
+    let able = restorable (kept .before .before .before .before .before .before .before .before) in
+    let below = restore-below _ _ _ ready _ (able .candidate) in
+    let trial = kept .before .before .before .before .before .if-restored .ensures in
+    let made = c .before .before .before .before .before .put-back-at .ensures _ ready (able .candidate) (able .absent) (trial .neighbours) in
+    let now = trial-state _ _ _ ready _ below _ (trial .counts) _ _ made in
+    record {
+      going = trial-going _ _ _ ready _ below _ (trial .counts) _ _ made _ refl;
+      kin = kin-now _ _ _ now;
+      run = turn-restored _ _ _ _ (able .absent) _ (weighed (kept .before .before .before)) (kept .if2 .taken) _ _ now refl refl refl;
+    }
+
+same-length-4 : tie.Need-same-length-4
+same-length-4 c = search needs
+
 returns-3 : tie.Need-returns-3
 returns-3 c =
-    let tested = c .before in
-    let given = tested .before .before .before .before .before .before .before .before .before .before .before .before .before .before .before .before .before .pre in
-    let known = number-known _ _ _ _ (given .4 .ready) (given .3) in
-    let absent = sym (stands-read _ _ _ _ _ _ (given .4 .ready) (tested .before .before .before .before .before .before .before .before .before .before .before .before .load128 .ensures) (tested .before .before .before .before .before .before .before .before .before .before .before .contains .ensures)) ∙ tested .before .before .before .before .before .before .before .before .before .before .if1 .left in
-    let trial = tested .before .before .before .before .before .before .before .if-restored .ensures in (
-      going-back _ _ _ _ _ _ (given .4) refl refl,
-      kin-same _,
-      turn-kept _ _ _ _ absent _ (tried-weighed _ _ _ (given .4 .ready) _ (known .0) _ (trial .counts) _ _ (tested .before .before .before .weigh .ensures .0)) (c .if2 .left) _ _ refl refl refl refl,
-    )
+    record {
+      going = going-back _ _ _ _ _ _ _ (c .before .before .before .before .before .before .before .before .before .before .before .before .before .before .before .pre .0) refl refl refl;
+      kin = kin-same _;
+      run = turn-kept _ _ _ _ (restorable (c .before .before .before .before .before .before .before .before) .absent) _ (weighed (c .before .before .before)) (c .if2 .left) _ _ refl refl refl refl;
+    }
 
 pub try-restore-spec : {M : Type 1} → statement M
 try-restore-spec =
@@ -91,10 +126,11 @@ try-restore-spec =
     returns
     if-restored-requires
     weigh-requires
-    add-changed
     add-examined
     put-back-at-requires
+    add-t24
     same-length-2
-    returns-2
     same-length-3
+    returns-2
+    same-length-4
     returns-3)
