@@ -3,8 +3,8 @@
 use mathlib.Core.Path.{_≡_, refl, sym, _∙_, subst}
 use mathlib.Core.Bool.{Bool, So}
 use mathlib.Core.Logic.{_↔_, _≢_, _⊎_, ⊎-elim}
-use Prim.Native.Nat.{ℕ}
-use Rattle.sets.specs.Sets.{has, _∩_, _∖_, single, collect}
+use Prim.Native.Nat.{ℕ, _<_}
+use Rattle.sets.specs.Sets.{has, _∩_, _∖_, single}
 use Rattle.sets.proofs.Truth.{equal-or}
 use Rattle.sets.proofs.Order.{∩-iff, ∖-iff, single-iff, collect-iff}
 use Rattle.model.specs.Chains.{Chain, one, more, link}
@@ -15,6 +15,57 @@ use Rattle.model.proofs.Building.{stands-below, senior-trans, senior-stands, se
 use Rattle.model.proofs.Changes.{stands-other, senior-other}
 use Rattle.model.proofs.Shortcuts.{lower-iff}
 use Rattle.hierarchy.specs.Tables.{immediateSeniors}
+
+-- One side of the hierarchy of the standing set S. A role keeps direct those items of its set f that no role has to which it loses: permissions are
+-- lost to juniors, users to seniors, and the nearest of these are its immediate ones.
+pub record Side (ρ : Roles) (S k n : ℕ) (f : ℕ → ℕ) (loses : ℕ → ℕ → ℕ → Bool) (direct near : ℕ → ℕ → ℕ) : Type 0 where
+  pub told : (R i p : ℕ) → So (has (direct R i) p)
+      ↔ ((p < n) × So (has R i) × So (has (f i) p) × ((j : ℕ) → j < candidateCount ρ → So (loses R i j) → So (has (f j) p) → ⊥))
+  pub other : (i j : ℕ) → So (loses (S ∖ single k) i j) ↔ (So (loses S i j) × (i ≢ k) × (j ≢ k))
+  pub stands : (i j : ℕ) → So (loses S i j) → So (has S i) × So (has S j)
+  pub trans : (i j l : ℕ) → So (loses S i j) → So (loses S j l) → So (loses S i l)
+  pub differs : (i j : ℕ) → So (loses S i j) → i ≢ j
+  pub keeps : (i j p : ℕ) → So (loses S i j) → So (has (f j) p) → So (has (f i) p)
+  pub nearest : (i x : ℕ) → So (has (near S i) x) → So (loses S i x)
+  pub first : (i j : ℕ) → So (loses S i j) → (x : ℕ) × So (has (near S i) x) × ((x ≡ j) ⊎ So (loses S x j))
+
+-- a role that loses to k takes over what is direct with k, and is with none of its other nearest
+module _ (ρ : Roles) (S k n : ℕ) (f : ℕ → ℕ) (loses : ℕ → ℕ → ℕ → Bool) (direct near : ℕ → ℕ → ℕ) (side : Side ρ S k n f loses direct near) (o : Ordered ρ S)
+    (here : So (has S k)) (i : ℕ) (s : So (loses S i k)) where
+  taken : (p : ℕ) → So (has (direct (S ∖ single k) i ∩ f k) p)
+      ↔ (So (has (direct S k) p) × ((x : ℕ) → So (has (near S i ∖ single k) x) → So (has (f x) p) → ⊥))
+  taken p =
+      let d = side .differs i k s in (
+        λ t.
+            let m = ∩-iff (direct (S ∖ single k) i) (f k) p .0 t in
+            let a = side .told (S ∖ single k) i p .0 (m .0) in (
+              side .told S k p .1
+                  (a .0, here, m .1, λ j l y q. a .3 j l (side .other i j .1 (side .trans i k j s y, d, λ e. side .differs k j y (sym e))) q),
+              λ x y q.
+                  let b = ∖-iff (near S i) (single k) x .0 y in
+                  let z = side .nearest i x (b .0) in
+                  a .3 x (stands-below ρ S o x (side .stands i x z .1)) (side .other i x .1 (z, d, λ e. b .1 (single-iff k x .1 (sym e)))) q,
+            ),
+        λ g.
+            let b = side .told S k p .0 (g .0) in
+            ∩-iff (direct (S ∖ single k) i) (f k) p .1 (
+              side .told (S ∖ single k) i p .1 (
+                b .0,
+                stands-other ρ S o k i .1 (side .stands i k s .0, d),
+                side .keeps i k p s (b .2),
+                λ j l y q.
+                    let a = side .other i j .0 y in
+                    let w = side .first i j (a .0) in
+                    equal-or (w .0) k
+                    (λ (e : w .0 ≡ k).
+                    ⊎-elim (λ (h : w .0 ≡ j). a .2 (sym h ∙ e)) (λ z. b .3 j l (subst (λ (v : ℕ). So (loses S v j)) e z) q) (w .2))
+                    (λ e.
+                    g .1 (w .0) (∖-iff (near S i) (single k) (w .0) .1 (w .1, λ z. e (sym (single-iff k (w .0) .0 z))))
+                    (⊎-elim (λ (h : w .0 ≡ j). subst (λ (v : ℕ). So (has (f v) p)) (sym h) q) (λ z. side .keeps (w .0) j p z q) (w .2))),
+              ),
+              b .2,
+            ),
+      )
 
 -- S is the standing set with k
 module _ (ρ : Roles) (S : ℕ) (o : Ordered ρ S) where
@@ -34,33 +85,50 @@ module _ (ρ : Roles) (S : ℕ) (o : Ordered ρ S) where
       )
 
   module _ (k : ℕ) (here : So (has S k)) where
-    -- the other immediate juniors of i, and the other immediate seniors of j
+    junior-in : (i x : ℕ) → So (immediatelySenior ρ S i x) → So (has (immediateJuniors ρ S i) x)
+    junior-in i x h = junior-iff ρ S i x .1 (stands-below ρ S o x (senior-stands ρ S o i x (immediate-iff ρ S i x .0 h .0) .1), h)
+
+    -- the other immediate juniors of i
     junior-of : (i x : ℕ) → So (has (immediateJuniors ρ S i ∖ single k) x) ↔ (So (immediatelySenior ρ S i x) × (x ≢ k))
     junior-of i x = (
       λ t.
           let a = ∖-iff (immediateJuniors ρ S i) (single k) x .0 t in
           (junior-iff ρ S i x .0 (a .0) .1, λ e. a .1 (single-iff k x .1 (sym e))),
-      λ f.
-          ∖-iff (immediateJuniors ρ S i) (single k) x .1 (
-            junior-iff ρ S i x .1 (stands-below ρ S o x (senior-stands ρ S o i x (immediate-iff ρ S i x .0 (f .0) .0) .1), f .0),
-            λ t. f .1 (sym (single-iff k x .0 t)),
-          ),
+      λ g. ∖-iff (immediateJuniors ρ S i) (single k) x .1 (junior-in i x (g .0), λ t. g .1 (sym (single-iff k x .0 t))),
     )
 
-    senior-of : (j x : ℕ) → So (has (immediateSeniors ρ S j ∖ single k) x) ↔ (So (immediatelySenior ρ S x j) × (x ≢ k))
-    senior-of j x =
-        let test : ℕ → Bool = λ i. has (immediateJuniors ρ S i) j in
-        let all = collect (candidateCount ρ) test in (
-          λ t.
-              let a = ∖-iff all (single k) x .0 t in
-              (junior-iff ρ S x j .0 (collect-iff (candidateCount ρ) test x .0 (a .0) .1) .1, λ e. a .1 (single-iff k x .1 (sym e))),
-          λ f.
-              let st = senior-stands ρ S o x j (immediate-iff ρ S x j .0 (f .0) .0) in
-              ∖-iff all (single k) x .1 (
-                collect-iff (candidateCount ρ) test x .1 (stands-below ρ S o x (st .0), junior-iff ρ S x j .1 (stands-below ρ S o j (st .1), f .0)),
-                λ t. f .1 (sym (single-iff k x .0 t)),
-              ),
-        )
+    -- the two sides
+    upper-side : Side ρ S k (ρ .permissions) (permissionSet ρ) (senior ρ) (directPermissions ρ) (immediateJuniors ρ)
+    upper-side =
+        record {
+          told = permission-iff ρ;
+          other = senior-other ρ S o k;
+          stands = senior-stands ρ S o;
+          trans = senior-trans ρ S o;
+          differs = senior-differs ρ S o;
+          keeps = senior-permission ρ S o;
+          nearest = λ i x t. immediate-iff ρ S i x .0 (junior-iff ρ S i x .0 t .1) .0;
+          first = λ i j h. let w = first (senior-chain ρ S o i j h) in (w .0, junior-in i (w .0) (w .1), w .2);
+        }
+
+    lower-side : Side ρ S k (ρ .users) (authorisedUsers ρ) (λ R i j. senior ρ R j i) (directMembers ρ) (immediateSeniors ρ)
+    lower-side =
+        record {
+          told = member-iff ρ;
+          other = λ i j. (
+            λ h. let a = senior-other ρ S o k j i .0 h in (a .0, a .2, a .1),
+            λ a. senior-other ρ S o k j i .1 (a .0, a .2, a .1),
+          );
+          stands = λ i j h. let a = senior-stands ρ S o j i h in (a .1, a .0);
+          trans = λ i j l x y. senior-trans ρ S o l j i y x;
+          differs = λ i j h e. senior-differs ρ S o j i h (sym e);
+          keeps = λ i j u h. senior-user ρ S o j i u h;
+          nearest = λ j x t. immediate-iff ρ S x j .0 (junior-iff ρ S x j .0 (collect-iff (candidateCount ρ) (λ i. has (immediateJuniors ρ S i) j) x .0 t .1) .1) .0;
+          first = λ j i h.
+              let w = last (senior-chain ρ S o i j h) in
+              let l = stands-below ρ S o (w .0) (senior-stands ρ S o (w .0) j (immediate-iff ρ S (w .0) j .0 (w .1) .0) .0) in
+              (w .0, collect-iff (candidateCount ρ) (λ i. has (immediateJuniors ρ S i) j) (w .0) .1 (l, junior-in (w .0) j (w .1)), ⊎-elim (λ e. _⊎_.inl (sym e)) (λ z. _⊎_.inr z) (w .2));
+        }
 
     -- an immediate senior takes over direct permissions of k, and links to its juniors
     module _ (i : ℕ) (h : So (immediatelySenior ρ S i k)) where
@@ -73,37 +141,7 @@ module _ (ρ : Roles) (S : ℕ) (o : Ordered ρ S) where
       pub permission-taken : (p : ℕ)
           → So (has (directPermissions ρ (S ∖ single k) i ∩ permissionSet ρ k) p)
           ↔ (So (has (directPermissions ρ S k) p) × ((x : ℕ) → So (has (immediateJuniors ρ S i ∖ single k) x) → So (has (permissionSet ρ x) p) → ⊥))
-      permission-taken p = (
-        λ t.
-            let m = ∩-iff (directPermissions ρ (S ∖ single k) i) (permissionSet ρ k) p .0 t in
-            let a = permission-iff ρ (S ∖ single k) i p .0 (m .0) in (
-              permission-iff ρ S k p .1
-                  (a .0, here, m .1, λ j l y q. a .3 j l (senior-other ρ S o k i j .1 (senior-trans ρ S o i k j s y, d, λ e. senior-differs ρ S o k j y (sym e))) q),
-              λ x y q.
-                  let b = junior-of i x .0 y in
-                  let z = immediate-iff ρ S i x .0 (b .0) .0 in
-                  a .3 x (stands-below ρ S o x (senior-stands ρ S o i x z .1)) (senior-other ρ S o k i x .1 (z, d, b .1)) q,
-            ),
-        λ f.
-            let b = permission-iff ρ S k p .0 (f .0) in
-            ∩-iff (directPermissions ρ (S ∖ single k) i) (permissionSet ρ k) p .1 (
-              permission-iff ρ (S ∖ single k) i p .1 (
-                b .0,
-                stands-other ρ S o k i .1 (senior-stands ρ S o i k s .0, d),
-                senior-permission ρ S o i k p s (b .2),
-                λ j l y q.
-                    let a = senior-other ρ S o k i j .0 y in
-                    let w = first (senior-chain ρ S o i j (a .0)) in
-                    equal-or (w .0) k
-                    (λ (e : w .0 ≡ k).
-                    ⊎-elim (λ (g : w .0 ≡ j). a .2 (sym g ∙ e)) (λ z. b .3 j l (subst (λ (v : ℕ). So (senior ρ S v j)) e z) q) (w .2))
-                    (λ e.
-                    f .1 (w .0) (junior-of i (w .0) .1 (w .1, e))
-                    (⊎-elim (λ (g : w .0 ≡ j). subst (λ (v : ℕ). So (has (permissionSet ρ v) p)) (sym g) q) (λ z. senior-permission ρ S o (w .0) j p z q) (w .2))),
-              ),
-              b .2,
-            ),
-      )
+      permission-taken = taken ρ S k (ρ .permissions) (permissionSet ρ) (senior ρ) (directPermissions ρ) (immediateJuniors ρ) upper-side o here i s
 
       pub link-taken : (j : ℕ)
           → So (has (immediateJuniors ρ (S ∖ single k) i ∩ immediateJuniors ρ S k) j)
@@ -149,36 +187,5 @@ module _ (ρ : Roles) (S : ℕ) (o : Ordered ρ S) where
     pub member-taken : (j : ℕ) → So (immediatelySenior ρ S k j) → (u : ℕ)
         → So (has (directMembers ρ (S ∖ single k) j ∩ authorisedUsers ρ k) u)
         ↔ (So (has (directMembers ρ S k) u) × ((x : ℕ) → So (has (immediateSeniors ρ S j ∖ single k) x) → So (has (authorisedUsers ρ x) u) → ⊥))
-    member-taken j h u =
-        let s = immediate-iff ρ S k j .0 h .0 in
-        let d : j ≢ k = λ e. senior-differs ρ S o k j s (sym e) in (
-          λ t.
-              let m = ∩-iff (directMembers ρ (S ∖ single k) j) (authorisedUsers ρ k) u .0 t in
-              let a = member-iff ρ (S ∖ single k) j u .0 (m .0) in (
-                member-iff ρ S k u .1
-                    (a .0, here, m .1, λ i l y q. a .3 i l (senior-other ρ S o k i j .1 (senior-trans ρ S o i k j y s, senior-differs ρ S o i k y, d)) q),
-                λ x y q.
-                    let b = senior-of j x .0 y in
-                    let z = immediate-iff ρ S x j .0 (b .0) .0 in
-                    a .3 x (stands-below ρ S o x (senior-stands ρ S o x j z .0)) (senior-other ρ S o k x j .1 (z, b .1, d)) q,
-              ),
-          λ f.
-              let b = member-iff ρ S k u .0 (f .0) in
-              ∩-iff (directMembers ρ (S ∖ single k) j) (authorisedUsers ρ k) u .1 (
-                member-iff ρ (S ∖ single k) j u .1 (
-                  b .0,
-                  stands-other ρ S o k j .1 (senior-stands ρ S o k j s .1, d),
-                  senior-user ρ S o k j u s (b .2),
-                  λ i l y q.
-                      let a = senior-other ρ S o k i j .0 y in
-                      let w = last (senior-chain ρ S o i j (a .0)) in
-                      equal-or (w .0) k
-                      (λ (e : w .0 ≡ k).
-                      ⊎-elim (λ (g : i ≡ w .0). a .1 (g ∙ e)) (λ z. b .3 i l (subst (λ (v : ℕ). So (senior ρ S i v)) e z) q) (w .2))
-                      (λ e.
-                      f .1 (w .0) (senior-of j (w .0) .1 (w .1, e))
-                      (⊎-elim (λ (g : i ≡ w .0). subst (λ (v : ℕ). So (has (authorisedUsers ρ v) u)) g q) (λ z. senior-user ρ S o i (w .0) u z q) (w .2))),
-                ),
-                b .2,
-              ),
-        )
+    member-taken j h =
+        taken ρ S k (ρ .users) (authorisedUsers ρ) (λ R i j. senior ρ R j i) (directMembers ρ) (immediateSeniors ρ) lower-side o here j (immediate-iff ρ S k j .0 h .0)

@@ -19,7 +19,7 @@ use Rattle.rows.specs.Linked.{Linked}
 use Rattle.rows.specs.Partway.{Partway, Begun, Target}
 use Rattle.rows.proofs.Partway.{noRows, marks, begun, finished}
 use Rattle.rows.proofs.Linking.{columns-turned}
-use Rattle.rows.proofs.Rewriting.{now-juniors, standing-below}
+use Rattle.rows.proofs.Rewriting.{target-below, now-juniors}
 
 module _ (st : State) (lim : Limits st) (index first : List ℕ) (b : Begun st first) (ix : Indexed (rolesOf st) index) where
   count-told : candidateCount (rolesOf st) ≡ getD first 2 0
@@ -32,18 +32,18 @@ module _ (st : State) (lim : Limits st) (index first : List ℕ) (b : Begun st f
       (λ j l. b .headed .head (4 + j) (omega arith) ∙ rw (now-same st) at (marks st (st .standing) j l))
 
   pub rows-built : (R : ℕ) (second third before seniors : List ℕ) → R ≡ setAt 2 first 4
-      → ((old : RoleRows) (st : State) (t : ℕ) → Target st R index → Partway old st R R t first → Partway old st 0 0 t second)
+      → ((old : RoleRows) (st : State) (t : ℕ) → Target st R index → candidateCount (rolesOf st) ≡ getD first 2 0 → Partway old st R R t first → Partway old st 0 0 t second)
       → ((i : ℕ) → getD before i 0 ≡ 0)
       → Filled 2 (getD first 2 0) (λ j. collect (getD first 2 0) (λ i. has (setAt 2 (take 256 (drop juniorsStart second)) (2 * i)) j)) before seniors
       → length seniors ≡ 256
-      → ((old : RoleRows) (st : State) (p : ℕ) → Target st R index → Linked second seniors → Partway old st 0 p R second → Partway old st 0 p 0 third × Linked third seniors)
+      → ((old : RoleRows) (st : State) (p : ℕ) → Target st R index → candidateCount (rolesOf st) ≡ getD first 2 0 → Linked second seniors → Partway old st 0 p R second → Partway old st 0 p 0 third × Linked third seniors)
       → (third ≡ built st) × Linked third seniors
   rows-built R second third before seniors eR uppers zero filled size lowers =
       let ρ = rolesOf st in
       let same : st .standing ≡ R = sym (eR ∙ standing-told) in
       let to : Target st R index = record { limits = lim; standing = same; indexed = ix } in
-      let q = uppers noRows st R to (subst (λ (S : ℕ). Partway noRows st S S S first) same (begun st first b)) in
-      let turned = columns-turned ρ R (lim .candidates-most) (standing-below noRows st 0 R R index second to) second (now-juniors noRows st 0 R R index second to q)
+      let q = uppers noRows st R to count-told (subst (λ (S : ℕ). Partway noRows st S S S first) same (begun st first b)) in
+      let turned = columns-turned ρ R (lim .candidates-most) (target-below st R index to) second (now-juniors noRows st 0 R R index second to q)
       (immediateJuniors-lt ρ R) before seniors zero (rw count-told filled) in
-      let done = lowers noRows st 0 to (record { size = size; turned = turned }) q in
+      let done = lowers noRows st 0 to count-told (record { size = size; turned = turned }) q in
       (finished noRows st third (done .0), done .1)

@@ -1,14 +1,21 @@
 -- What one turn of each loop stores, and what it leaves of the immediate juniors.
 -- Assumes nothing.
 use mathlib.Core.Path.{_≡_, refl, sym, _∙_, ap, subst}
+use mathlib.Core.Bool.{Bool, true}
 use mathlib.Core.Logic.{_≢_}
 use mathlib.Core.List.{List}
-use Prim.Native.Nat.{ℕ, _+_, _*_, _^_, _<_}
+use Prim.Native.Nat.{ℕ, suc, _+_, _*_, _^_, _<_}
 use native.Mathlib.Nat.{lt-of-lt-of-le}
+use native.Mathlib.Numerals.{add-one}
+use native.Mathlib.Omega.{arith}
 use lib.ListN.{length, take, drop}
 use lib.Pow.{pow-mono}
-use Rattle.sets.specs.Sets.{_∖_, single}
+use Rattle.sets.specs.Sets.{_∖_, single, collect}
 use Rattle.sets.specs.Words.{word}
+use Rattle.sets.proofs.Truth.{below-suc}
+use Rattle.sets.proofs.Items.{item-below, same-set, empty-of}
+use Rattle.sets.proofs.Order.{∖-iff, single-iff, collect-iff, collect-zero}
+use Rattle.sets.proofs.Words.{∖-zero}
 use Rattle.model.specs.Lists.{setAt}
 use Rattle.model.specs.Hierarchy.{Roles, candidateCount, permissionSet, immediateJuniors, directPermissions, directMembers, RoleRows}
 use Rattle.model.specs.Record.{setsStart, permissionsStart, membersStart, juniorsStart}
@@ -27,12 +34,15 @@ use Rattle.rows.proofs.Regions.{still-other, still-none, region-holds, 
 use Rattle.rows.proofs.Partway.{juniors-stored, permissions-stored, members-stored}
 use Rattle.rows.proofs.Linking.{linked-same, seniors-held}
 
+pub target-below : (st : State) (R : ℕ) (index : List ℕ) → Target st R index → R < 2 ^ candidateCount (rolesOf st)
+target-below st R index to = subst (λ (S : ℕ). S < 2 ^ candidateCount (rolesOf st)) (to .standing) (to .limits .standing-below)
+
 module _ (old : RoleRows) (st : State) (p t R : ℕ) (index ws : List ℕ) (to : Target st R index) where
   abbrev ρ : Roles
   ρ = rolesOf st
 
-  pub standing-below : R < 2 ^ candidateCount (rolesOf st)
-  standing-below = subst (λ (S : ℕ). S < 2 ^ candidateCount (rolesOf st)) (to .standing) (to .limits .standing-below)
+  below : R < 2 ^ candidateCount (rolesOf st)
+  below = target-below st R index to
 
   pub upper-rewritten : (s i js ps : ℕ) (mid after : List ℕ) → i < 128
       → ((ρ : Roles) → Numbered ρ → LowerRoles ρ index → R < 2 ^ candidateCount ρ → js ≡ immediateJuniors ρ R i)
@@ -43,10 +53,10 @@ module _ (old : RoleRows) (st : State) (p t R : ℕ) (index ws : List ℕ) (to :
       let n = numbered st (to .limits) in
       let w = narrow st (to .limits) in
       let same = sym (to .standing) in
-      let ej = juniors ρ n (to .indexed .lower-roles) standing-below in
+      let ej = juniors ρ n (to .indexed .lower-roles) below in
       let sets = region-holds 4 setsStart (candidateCount ρ) 512 (permissionSet ρ) ws refl (n .few)
       (λ k l. lt-of-lt-of-le (w .inside k l) (pow-mono (w .fewPermissions))) (q .headed .sets) in
-      let ep = permissions ρ n w sets standing-below ej in
+      let ep = permissions ρ n w sets below ej in
       let first : Partway old st (s ∖ single i) p t mid = rw em (juniors-stored old st s p t i js ws li q (ej ∙ ap (λ (S : ℕ). immediateJuniors ρ S i) same)) in
       rw ea (permissions-stored old st (s ∖ single i) p t i ps mid li first (ep ∙ ap (λ (S : ℕ). directPermissions ρ S i) same))
 
@@ -64,8 +74,8 @@ module _ (old : RoleRows) (st : State) (p t R : ℕ) (index ws : List ℕ) (to :
       → Linked ws seniors → Partway old st 0 p t ws → Partway old st 0 p (t ∖ single j) after
   lower-rewritten j is ms seniors after lj ei small members ea l q =
       let n = numbered st (to .limits) in
-      let above = seniors-held ρ R (n .few) standing-below ws (now-juniors q) seniors j is l lj ei small in
-      let em = members ρ n (narrow st (to .limits)) (to .indexed .role-users) standing-below above in
+      let above = seniors-held ρ R (n .few) below ws (now-juniors q) seniors j is l lj ei small in
+      let em = members ρ n (narrow st (to .limits)) (to .indexed .role-users) below above in
       rw ea (members-stored old st 0 p t j ms ws lj q (em ∙ ap (λ (S : ℕ). directMembers ρ S j) (sym (to .standing))))
 
 -- ---- what is left of the juniors: entries that are old, or new, in both records
@@ -96,3 +106,39 @@ linked-upper old st s p t p' t' i had has' ws ws' seniors seniors' q q' eh eh' r
       turned = relink (juniorsIn ws) (juniorsIn ws') (l .turned) eh eh'
           (λ a la d. juniors-kept old st s p t (s ∖ single i) p' t' ws ws' q q' a la (still-other s (old .juniors) new i a d));
     }
+
+-- ---- all roles, by number
+
+-- the roles of R from number k on
+unfoldable pub from : ℕ → ℕ → ℕ
+from R k = R ∖ collect k (λ i. true)
+
+pub from-start : (R : ℕ) → R ≡ from R 0
+unfolding from
+from-start R = sym (ap (λ (x : ℕ). R ∖ x) (collect-zero (λ i. true)) ∙ ∖-zero R)
+
+pub from-more : (R k : ℕ) → from R k ∖ single k ≡ from R (k + 1)
+unfolding from
+from-more R k =
+    let all : ℕ → Bool = λ i. true in
+    rw (add-one k)
+    (same-set ((R ∖ collect k all) ∖ single k) (R ∖ collect (suc k) all)
+    (λ i t.
+    let a = ∖-iff (R ∖ collect k all) (single k) i .0 t in
+    let b = ∖-iff R (collect k all) i .0 (a .0) in
+    ∖-iff R (collect (suc k) all) i .1
+    (b .0, λ x. below-suc i k (collect-iff (suc k) all i .0 x .0) (λ (e : i ≡ k). a .1 (single-iff k i .1 (sym e))) (λ l. b .1 (collect-iff k all i .1 (l, refl)))))
+    (λ i t.
+    let a = ∖-iff R (collect (suc k) all) i .0 t in
+    ∖-iff (R ∖ collect k all) (single k) i .1 (
+      ∖-iff R (collect k all) i .1 (a .0, λ x. let l = collect-iff k all i .0 x .0 in a .1 (collect-iff (suc k) all i .1 (omega arith, refl))),
+      λ x. let e : k ≡ i = single-iff k i .0 x in a .1 (collect-iff (suc k) all i .1 (omega arith, refl)),
+    )))
+
+-- all candidates are passed
+pub from-all : (st : State) (R k : ℕ) (index : List ℕ) → Target st R index → candidateCount (rolesOf st) ≡ k → from R k ≡ 0
+unfolding from
+from-all st R k index to e =
+    let b : R < 2 ^ k = rw e at (target-below st R index to) in
+    let all = collect k (λ i. true) in
+    empty-of (R ∖ all) (λ i t. let a = ∖-iff R all i .0 t in a .1 (collect-iff k (λ i. true) i .1 (item-below k R i b (a .0), refl)))

@@ -7,8 +7,8 @@ ghost use Rattle.model.specs.State.{State, rolesOf};
 ghost use Rattle.indexes.specs.Index.{indexLength, Indexed};
 ghost use Rattle.rows.specs.Linked.{Linked};
 ghost use Rattle.rows.specs.Partway.{Begun};
-use crate::lower::rewrite_lowers;
-use crate::upper::rewrite_uppers;
+use crate::lower::fill_lowers;
+use crate::upper::fill_uppers;
 use columns::fill_columns;
 use tables::JUNIORS;
 use tables::LENGTH;
@@ -26,7 +26,7 @@ pub fn build_rows(rec: &mut [u64], index: &[u64], seniors: &mut [u64])
 {
     let c = rec[2] as usize;
     let standing = load128(rec, STANDING);
-    rewrite_uppers(rec, index, standing, standing);
+    fill_uppers(rec, index, standing, c);
     fill_columns(&rec[JUNIORS..LENGTH], c, c, seniors);
-    rewrite_lowers(rec, index, seniors, standing, standing);
+    fill_lowers(rec, index, seniors, standing, c);
 }

@@ -8,4 +8,3 @@ mod upper;
 pub use build::build_rows;
 pub use link::relink_uppers;
 pub use lower::rewrite_lowers;
-pub use upper::rewrite_uppers;

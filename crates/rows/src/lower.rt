@@ -1,12 +1,12 @@
 // Direct members: what a role has by those above it.
 ghost use mathlib.Core.Path.{_≡_};
-ghost use Prim.Native.Nat.{ℕ, _<_};
+ghost use Prim.Native.Nat.{ℕ, _≤_, _<_};
 ghost use lib.ListN.{length};
 ghost use Rattle.sets.specs.Held.{set128};
 ghost use Rattle.sets.specs.Sets.{_∖_, single};
-ghost use Rattle.model.specs.Hierarchy.{RoleRows};
+ghost use Rattle.model.specs.Hierarchy.{candidateCount, RoleRows};
 ghost use Rattle.model.specs.Record.{recordLength};
-ghost use Rattle.model.specs.State.{State};
+ghost use Rattle.model.specs.State.{State, rolesOf};
 ghost use Rattle.indexes.specs.Index.{indexLength};
 ghost use Rattle.rows.specs.Linked.{Linked};
 ghost use Rattle.rows.specs.Partway.{Partway, Target};
@@ -50,5 +50,20 @@ pub fn rewrite_lowers(
         let j = lowest_item(rest);
         rewrite_lower(rec, index, seniors, standing, j);
         rest = rest.remove(j);
+    }
+}
+
+// Those of all c candidates, for a record that is built afresh.
+pub fn fill_lowers(rec: &mut [u64], index: &[u64], seniors: &[u64], standing: Set128, c: usize)
+    requires { ⌜ length (now rec) ≡ recordLength ⌝ }
+    requires { ⌜ length (now index) ≡ indexLength ⌝ }
+    requires { ⌜ length (now seniors) ≡ 256 ⌝ }
+    requires { ⌜ c ≤ 128 ⌝ }
+    ensures { λ r. ⌜ ((old : RoleRows) (st : State) (p : ℕ) → Target st (set128 standing) (now (index .entry)) → candidateCount (rolesOf st) ≡ c → Linked (now (rec .entry)) (now (seniors .entry)) → Partway old st 0 p (set128 standing) (now (rec .entry)) → Partway old st 0 p 0 (now (rec .exit)) × Linked (now (rec .exit)) (now (seniors .entry))) ⌝ }
+{
+    let mut j = 0;
+    while j < c {
+        rewrite_lower(rec, index, seniors, standing, j);
+        j += 1;
     }
 }

@@ -1,16 +1,15 @@
 // Immediate juniors and direct permissions: what a role has by those below it.
 ghost use mathlib.Core.Path.{_≡_};
-ghost use Prim.Native.Nat.{ℕ, _<_};
+ghost use Prim.Native.Nat.{ℕ, _≤_, _<_};
 ghost use lib.ListN.{length};
 ghost use Rattle.sets.specs.Held.{set128};
 ghost use Rattle.sets.specs.Sets.{_∖_, single};
-ghost use Rattle.model.specs.Hierarchy.{RoleRows};
+ghost use Rattle.model.specs.Hierarchy.{candidateCount, RoleRows};
 ghost use Rattle.model.specs.Record.{recordLength};
-ghost use Rattle.model.specs.State.{State};
+ghost use Rattle.model.specs.State.{State, rolesOf};
 ghost use Rattle.indexes.specs.Index.{indexLength};
 ghost use Rattle.rows.specs.Partway.{Partway, Target};
 use hierarchy::juniors_of;
-use hierarchy::lowest_item;
 use hierarchy::permissions_of;
 use indexes::LOWER;
 use indexes::ROLES;
@@ -34,16 +33,17 @@ pub fn rewrite_upper(rec: &mut [u64], index: &[u64], standing: Set128, i: usize)
     store256(rec, PERMISSIONS + 4 * i, permissions);
 }
 
-// Those of the roles in `roles`, for a record that is built afresh: the table of immediate seniors is filled when they are all there.
-pub fn rewrite_uppers(rec: &mut [u64], index: &[u64], standing: Set128, roles: Set128)
+// Those of all c candidates, for a record that is built afresh, by number: that is faster than taking them out of a set. The table of immediate
+// seniors is filled when they are all there.
+pub fn fill_uppers(rec: &mut [u64], index: &[u64], standing: Set128, c: usize)
     requires { ⌜ length (now rec) ≡ recordLength ⌝ }
     requires { ⌜ length (now index) ≡ indexLength ⌝ }
-    ensures { λ r. ⌜ ((old : RoleRows) (st : State) (t : ℕ) → Target st (set128 standing) (now (index .entry)) → Partway old st (set128 roles) (set128 roles) t (now (rec .entry)) → Partway old st 0 0 t (now (rec .exit))) ⌝ }
+    requires { ⌜ c ≤ 128 ⌝ }
+    ensures { λ r. ⌜ ((old : RoleRows) (st : State) (t : ℕ) → Target st (set128 standing) (now (index .entry)) → candidateCount (rolesOf st) ≡ c → Partway old st (set128 standing) (set128 standing) t (now (rec .entry)) → Partway old st 0 0 t (now (rec .exit))) ⌝ }
 {
-    let mut rest = roles;
-    while !rest.is_empty() {
-        let i = lowest_item(rest);
-        rewrite_upper(rec, index, standing, i);
-        rest = rest.remove(i);
+    let mut k = 0;
+    while k < c {
+        rewrite_upper(rec, index, standing, k);
+        k += 1;
     }
 }

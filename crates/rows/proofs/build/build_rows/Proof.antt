@@ -12,8 +12,8 @@ slice-read-c c = search needs
 load128-requires : tie.Need-load128-requires
 load128-requires c κs = search needs
 
-rewrite-uppers-requires : tie.Need-rewrite-uppers-requires
-rewrite-uppers-requires c κs = search needs
+fill-uppers-requires : tie.Need-fill-uppers-requires
+fill-uppers-requires c κs = search needs
 
 sub-fill-columns : tie.Need-sub-fill-columns
 sub-fill-columns c = search needs
@@ -27,8 +27,8 @@ part-fill-columns-end c = search needs
 fill-columns-requires : tie.Need-fill-columns-requires
 fill-columns-requires c κs = search needs
 
-rewrite-lowers-requires : tie.Need-rewrite-lowers-requires
-rewrite-lowers-requires c κs = search needs
+fill-lowers-requires : tie.Need-fill-lowers-requires
+fill-lowers-requires c κs = search needs
 
 same-length : tie.Need-same-length
 same-length c = search needs
@@ -43,8 +43,8 @@ returns c st lim b ix =
     let uppers = columns .before .before .before .before .before .before in
     let standing = uppers .before .before in
     let start = standing .before .before .before .before .before .before in
-    rows-built st lim _ _ b ix _ _ _ (start .args .seniors .now) _ (standing .load128 .ensures) (uppers .rewrite-uppers .ensures)
-    (start .pre .1 .1 .1 .0) (columns .fill-columns .ensures) (omega (arith, start .pre .1 .1 .0, columns .fill-columns .kept)) (lowers .rewrite-lowers .ensures)
+    rows-built st lim _ _ b ix _ _ _ (start .args .seniors .now) _ (standing .load128 .ensures) (uppers .fill-uppers .ensures)
+    (start .pre .1 .1 .1 .0) (columns .fill-columns .ensures) (omega (arith, start .pre .1 .1 .0, columns .fill-columns .kept)) (lowers .fill-lowers .ensures)
 
 pub build-rows-spec : {M : Type 1} → statement M
 build-rows-spec =
@@ -52,12 +52,12 @@ build-rows-spec =
     (tie.spec
     slice-read-c
     load128-requires
-    rewrite-uppers-requires
+    fill-uppers-requires
     sub-fill-columns
     part-fill-columns-start
     part-fill-columns-end
     fill-columns-requires
-    rewrite-lowers-requires
+    fill-lowers-requires
     same-length
     same-length-2
     returns)
