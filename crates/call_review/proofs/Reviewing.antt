@@ -1,38 +1,46 @@
--- The refusals of a review, in their order, and its acceptance.
+-- A review that is refused, and one that is accepted.
 -- Assumes nothing.
-use mathlib.Core.Path.{_≡_, _∙_}
-use mathlib.Core.Bool.{false, So}
+use mathlib.Core.Path.{_≡_, refl, sym, _∙_}
+use mathlib.Core.Bool.{So}
 use mathlib.Core.List.{List}
 use Prim.Native.Nat.{ℕ}
-use native.Mathlib.Omega.{arith}
-use Rattle.sets.proofs.Truth.{if-passes, if-stops}
-use Rattle.model.specs.Quality.{Weights, weightsAllowed}
+use lib.ListN.{getD}
+use Rattle.model.specs.Lists.{setAt}
+use Rattle.model.specs.Quality.{Weights, counted, weightsAllowed}
 use Rattle.model.specs.Machine.{refusal, accepted, reviewed, reply}
 use Rattle.model.specs.Machine.Call.{review}
-use Rattle.model.specs.State.{rolesOf}
-use Rattle.model.specs.Record.{stateOf, sound}
-use Rattle.model.specs.Calls.{Edited, edit}
+use Rattle.model.specs.State.{State, rolesOf}
+use Rattle.model.specs.Record.{roleRowsOf, stateOf}
+use Rattle.model.specs.Refusals.{weightsRefusal}
+use Rattle.model.specs.Calls.{unfit, edit}
+use Rattle.model.proofs.Refusals.{unfit-iff, review-check}
+use Rattle.model.proofs.Sound.{counts-read}
+use Rattle.quality.specs.Numbers.{countsIn}
+use Rattle.quality.specs.declared.counts.Counts.{Counts}
+use Rattle.rows.specs.Linked.{Ready}
 use Rattle.edit_trials.specs.declared.progress.Progress.{Progress}
-use Rattle.edit_trials.specs.Trying.{Ready, Kin, runAt}
-use Rattle.calls.proofs.Edits.{refusedWith, edit-refused, run-given}
+use Rattle.edit_trials.specs.Trying.{Exact, Kin, runAt}
+use Rattle.edit_trials.proofs.Runs.{kin-built}
+use Rattle.calls_edit.proofs.Edits.{repliedWith, edit-accepted}
 use Rattle.call_review.specs.declared.ReviewAnswer.{ReviewAnswer}
-use Rattle.call_review.specs.Answers.{reviewGiven}
+use Rattle.call_review.specs.Results.{reviewResult}
 
-pub review-9 : (ws : List ℕ) (w : Weights) → So (sound ws) → weightsAllowed w ≡ false → refusedWith 9 ws ≡ edit ws (review w)
+-- the weights are its only check
+pub by-weights : (st : State) (w : Weights) → weightsRefusal w ≡ refusal st (review w)
 unfolding refusal
-review-9 ws w h f = edit-refused ws (review w) h 9 (omega arith) (if-stops (weightsAllowed w) 9 0 f)
+by-weights st w = refl
 
-pub review-0 : (ws low users after : List ℕ) (w : Weights) (g : Progress) → So (sound ws) → So (weightsAllowed w)
-    → Ready after low users × Kin (stateOf ws) after × (runAt after g 0 ≡ reviewed (rolesOf (stateOf ws)) w (stateOf ws .standing))
-    → record { replied = reply 0 (g .changed) (g .examined); words = after } ≡ edit ws (review w)
-unfolding refusal accepted
-review-0 ws low users after w g h ok t = run-given ws low users after g 0 (review w) h (if-passes (weightsAllowed w) 9 0 ok) t
+-- the record as it was
+pub refused : (ws : List ℕ) (w : Weights) (code : ℕ) (r : ReviewAnswer) → (r .code ≡ code) × (r .restored ≡ 0) × (r .examined ≡ 0) → repliedWith code ws ≡ edit ws (review w)
+    → reviewResult r ws ≡ edit ws (review w)
+unfolding reviewResult
+refused ws w code r e f = (λ i. record { replied = reply (e .0 i) (e .1 i) (e .2 i); words = ws }) ∙ f
 
-pub review-told : (r : ReviewAnswer) (ws : List ℕ) (n : ℕ) (o : Edited) → (r .code ≡ n) × (r .restored ≡ 0) × (r .examined ≡ 0) → refusedWith n ws ≡ o → reviewGiven r ws ≡ o
-unfolding reviewGiven
-review-told r ws n o e f = (λ i. record { replied = reply (e .0 i) (e .1 i) (e .2 i); words = ws }) ∙ f
-
-pub review-given : (r : ReviewAnswer) (ws : List ℕ) (g : Progress) (o : Edited) → (r .code ≡ 0) × (r .restored ≡ g .changed) × (r .examined ≡ g .examined)
-    → record { replied = reply 0 (g .changed) (g .examined); words = ws } ≡ o → reviewGiven r ws ≡ o
-unfolding reviewGiven
-review-given r ws g o e f = (λ i. record { replied = reply (e .0 i) (e .1 i) (e .2 i); words = ws }) ∙ f
+-- the record that the passes leave
+pub given : (ws after index seniors : List ℕ) (w : Weights) (g : Progress) (r : ReviewAnswer) → unfit ws ≡ 0 → refusal (stateOf ws) (review w) ≡ 0
+    → Ready (stateOf after) after index seniors → Kin (stateOf ws) after → runAt after g 0 ≡ reviewed (rolesOf (stateOf ws)) w (stateOf ws .standing)
+    → (r .code ≡ 0) × (r .restored ≡ g .changed) × (r .examined ≡ g .examined) → reviewResult r after ≡ edit ws (review w)
+unfolding reviewResult accepted runAt
+given ws after index seniors w g r z e ready kin run er =
+    (λ i. record { replied = reply (er .0 i) (er .1 i) (er .2 i); words = after })
+    ∙ edit-accepted ws (review w) z e (runAt after g 0) after (sym run) (kin-built (stateOf ws) after index seniors ready kin)

@@ -11,7 +11,7 @@ use Rattle.sets.proofs.Order.{single-lt, ∪-lt, ∖-lt}
 use Rattle.model.specs.Lists.{setAt}
 use Rattle.model.specs.Hierarchy.{candidateCount}
 use Rattle.model.specs.Quality as model
-use Rattle.model.specs.Record.{stateOf}
+use Rattle.model.specs.Record.{built, stateOf}
 use Rattle.model.specs.State.{State, rolesOf, standingNow}
 use Rattle.model.proofs.Record.{state-back}
 use Rattle.model.proofs.Steps.{roles-now, standing-now, limits-now, now-now, now-same}
@@ -78,6 +78,10 @@ kin-trans st ws after a b =
 
 pub kin-roles : (st : State) (ws : List ℕ) → Kin st ws → rolesOf (stateOf ws) ≡ rolesOf st
 kin-roles st ws a = ap rolesOf a ∙ roles-now st (stateOf ws .standing)
+
+-- and the record is built afresh from it
+pub kin-built : (st : State) (ws index seniors : List ℕ) → Ready (stateOf ws) ws index seniors → Kin st ws → ws ≡ built (standingNow st (stateOf ws .standing))
+kin-built st ws index seniors ready k = ready .afresh ∙ ap built k
 
 -- the number of roles in word 2 stays
 pub kin-count : (ws index seniors after index' seniors' : List ℕ) → Ready (stateOf ws) ws index seniors → Ready (stateOf after) after index' seniors' → Kin (stateOf ws) after

@@ -6,5 +6,5 @@ use Rattle.model.specs.Machine.{reply}
 use Rattle.model.specs.Calls.{Edited}
 use Rattle.call_review.specs.declared.ReviewAnswer.{ReviewAnswer}
 
-unfoldable pub reviewGiven : ReviewAnswer → List ℕ → Edited
-reviewGiven r ws = record { replied = reply (r .code) (r .restored) (r .examined); words = ws }
+unfoldable pub reviewResult : ReviewAnswer → List ℕ → Edited
+reviewResult r ws = record { replied = reply (r .code) (r .restored) (r .examined); words = ws }
