@@ -30,6 +30,7 @@ fn further_from(work: &[u64], all: Set128, i: usize) -> Set128
     found
 }
 
+// Each sample's entry.
 pub fn fill_further(work: &mut [u64], count: usize)
     requires { ⌜ ((ρ : Roles) × (found : ℕ → ℕ) × Reached ρ (now work) × Sampled ρ count found (now work)) ⌝ }
     ensures { λ r. ⌜ Unchanged 0 furtherStart (now (work .entry)) (now (work .exit)) ⌝ }

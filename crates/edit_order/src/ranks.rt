@@ -16,6 +16,7 @@ use sets::Set128;
 use tables::load128;
 use tables::store128;
 
+// Makes all words zero.
 fn clear(ws: &mut [u64])
     ensures { λ r. ⌜ ((i : ℕ) → i < length (now (ws .exit)) → getD (now (ws .exit)) i 0 ≡ 0) ⌝ }
 {
