@@ -17,7 +17,7 @@ use Rattle.stores.proofs.Stores.{length-putAt, putAt-below, putAt-above, putAt-
 use Rattle.tables.specs.Stores.{wordsOf}
 use Rattle.tables.specs.Tables.{Holds}
 use Rattle.tables.proofs.Stores.{stored-back}
-use Rattle.edit_order.specs.Work.{workLength, downStart, upStart, samplesStart, furtherStart, firstStart, ranksStart, entries, entry, HoldsAt, Unchanged, Reached, usersWithRoles, SamplesOf, holding, further, Sampled, Prepared, Placed}
+use Rattle.edit_order.specs.Work.{workLength, downStart, upStart, samplesStart, holdingStart, furtherStart, firstStart, ranksStart, ranksLength, entries, entry, HoldsAt, Unchanged, Reached, usersWithRoles, SamplesOf, holding, further, Sampled, Prepared, Placed}
 
 -- ---- words that are as before
 
@@ -63,7 +63,7 @@ module _ (a b : ℕ) (xs ys : List ℕ) (same : Unchanged a b xs ys) where
         few = s .few;
         of-users = s .of-users;
         roles = holds-same samplesStart count found l (omega arith) (s .roles);
-        held = holds-same 1024 (candidateCount ρ) (holding count found) (omega arith) (omega arith) (s .held);
+        held = holds-same holdingStart (candidateCount ρ) (holding count found) (omega arith) (omega arith) (s .held);
       }
 
 pub prepared-same : (ρ : Roles) (xs ys : List ℕ) → length ys ≡ workLength → Unchanged downStart ranksStart xs ys → Prepared ρ xs → Prepared ρ ys
@@ -78,6 +78,10 @@ prepared-same ρ xs ys size same p =
       first = set-same downStart ranksStart xs ys same firstStart (omega arith) (omega arith) ∙ p .first;
     }
 
+-- what lies below the ranks is as before
+pub prepared-taken : (ρ : Roles) (xs ys : List ℕ) → length ys ≡ workLength → take ranksStart ys ≡ take ranksStart xs → Prepared ρ xs → Prepared ρ ys
+prepared-taken ρ xs ys size e p = prepared-same ρ xs ys size (λ i from to. take-unchanged ranksStart xs ys e i (omega arith) to) p
+
 -- ---- another first region: the seniors after an edit
 
 module _ (ws seniors : List ℕ) (size : length ws ≡ workLength) (first : length seniors ≡ downStart) where
@@ -90,17 +94,17 @@ module _ (ws seniors : List ℕ) (size : length ws ≡ workLength) (first : leng
   pub seniors-prepared : (ρ : Roles) → Prepared ρ ws → Prepared ρ (putAt ws 0 seniors)
   seniors-prepared ρ p = prepared-same ρ ws (putAt ws 0 seniors) seniors-length (λ i from to. seniors-beside i from (omega arith)) p
 
-  pub seniors-ranks : take 258 (drop ranksStart (putAt ws 0 seniors)) ≡ take 258 (drop ranksStart ws)
+  pub seniors-ranks : take ranksLength (drop ranksStart (putAt ws 0 seniors)) ≡ take ranksLength (drop ranksStart ws)
   seniors-ranks =
-      let n : length (take 258 (drop ranksStart ws)) ≡ 258 = length-take-le 258 (drop ranksStart ws) (simp length-drop (omega arith)) in
-      let m : length (take 258 (drop ranksStart (putAt ws 0 seniors))) ≡ 258 =
-      length-take-le 258 (drop ranksStart (putAt ws 0 seniors)) (let l = seniors-length in simp length-drop (omega arith)) in
-      ext-getD 0 (take 258 (drop ranksStart (putAt ws 0 seniors))) (take 258 (drop ranksStart ws)) (m ∙ sym n)
+      let n : length (take ranksLength (drop ranksStart ws)) ≡ ranksLength = length-take-le ranksLength (drop ranksStart ws) (simp length-drop (omega arith)) in
+      let m : length (take ranksLength (drop ranksStart (putAt ws 0 seniors))) ≡ ranksLength =
+      length-take-le ranksLength (drop ranksStart (putAt ws 0 seniors)) (let l = seniors-length in simp length-drop (omega arith)) in
+      ext-getD 0 (take ranksLength (drop ranksStart (putAt ws 0 seniors))) (take ranksLength (drop ranksStart ws)) (m ∙ sym n)
       (λ i h.
-      let b : i < 258 = rw m at h in
-      getD-take 258 (drop ranksStart (putAt ws 0 seniors)) i 0 b ∙ getD-drop ranksStart (putAt ws 0 seniors) i 0
+      let b : i < ranksLength = rw m at h in
+      getD-take ranksLength (drop ranksStart (putAt ws 0 seniors)) i 0 b ∙ getD-drop ranksStart (putAt ws 0 seniors) i 0
       ∙ seniors-beside (ranksStart + i) (omega arith) (omega arith)
-      ∙ sym (getD-take 258 (drop ranksStart ws) i 0 b ∙ getD-drop ranksStart ws i 0))
+      ∙ sym (getD-take ranksLength (drop ranksStart ws) i 0 b ∙ getD-drop ranksStart ws i 0))
 
 -- ---- a table placed in two regions
 
@@ -119,7 +123,7 @@ unfolding holding
 placed table ws ws1 out n c at w k et ln lc ew fits ww e1 held eo ek =
     let src = take w table in
     let ls : length src ≡ w = length-take-le w table (omega arith) in
-    let l1 : length ws1 ≡ 1796 = ap length e1 ∙ length-putAt ws at src ∙ ew in
+    let l1 : length ws1 ≡ workLength = ap length e1 ∙ length-putAt ws at src ∙ ew in
     let ws2 = putAt ws1 (at + 256) out in
     let below = unchanged-below ws1 (at + 256) out in
     rw (part-back ws1 (at + 256) k out (eo ∙ sym ek) (omega arith))

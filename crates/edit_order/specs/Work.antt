@@ -40,6 +40,10 @@ firstStart = 1536
 abbrev pub ranksStart : ℕ
 ranksStart = 1538
 
+-- the ranks, the last region, have an entry to each redundancy from 0 to 128
+abbrev pub ranksLength : ℕ
+ranksLength = 258
+
 -- entry k of a table, and of the region that starts at place `at`
 abbrev pub entries : List ℕ → ℕ → ℕ
 entries table k = setAt 2 table (2 * k)
