@@ -1,4 +1,4 @@
--- The samples that have all roles of one: those left after each of its roles, or what lies within it, was asked for.
+-- The samples that have all roles of one: those left after each of its roles, or one that it lies within, was asked for.
 -- Assumes nothing.
 use mathlib.Core.Path.{_≡_, refl, _∙_}
 use mathlib.Core.Bool.{Bool, So}
@@ -6,114 +6,94 @@ use mathlib.Core.Logic.{_↔_}
 use mathlib.Core.List.{List}
 use Prim.Native.Nat.{ℕ, _+_, _*_, _^_, _≤_, _<_}
 use native.Mathlib.Omega.{arith}
+use lib.Count.{ones}
 use lib.Dec.{ltb}
 use lib.ListN.{length}
-use Rattle.sets.specs.Sets.{has, _∩_, _∖_, single, subset, collect}
+use Rattle.sets.specs.Sets.{has, _∩_, _∖_, subset, collect}
 use Rattle.sets.proofs.Truth.{by-test, So-not, equal-or, ltb-iff}
 use Rattle.sets.proofs.Items.{has-zero, same-set}
-use Rattle.sets.proofs.Order.{∩-iff, ∖-iff, single-iff, subset-iff, collect-iff}
-use Rattle.model.specs.Hierarchy.{Roles, candidateCount}
-use Rattle.model.specs.Indexes.{downFrom}
-use Rattle.model.proofs.Shortcuts.{rolesOfUser-iff, user-down}
+use Rattle.sets.proofs.Order.{∩-iff, ∖-iff, subset-iff, subset-refl, collect-iff}
+use Rattle.model.specs.Hierarchy.{Roles, candidateCount, permissionSet}
+use Rattle.model.specs.Indexes.{rolesOfUser, downFrom}
+use Rattle.model.proofs.Shortcuts.{rolesOfUser-iff, downFrom-iff, user-down}
 use Rattle.stores.specs.Stores.{putAt}
 use Rattle.stores.proofs.Stores.{length-putAt}
 use Rattle.tables.specs.Stores.{wordsOf}
 use Rattle.tables.proofs.Stores.{stored-back, stored-before}
-use Rattle.edit_order.specs.Work.{workLength, downStart, samplesStart, holdingStart, furtherStart, entry, HoldsAt, Unchanged, holding, further, Sampled}
-use Rattle.edit_order.proofs.Work.{unchanged-below, holds-same, sampled-same}
+use Rattle.edit_order.specs.Work.{workLength, downStart, samplesStart, holdingStart, furtherStart, entry, HoldsAt, Unchanged, Reached, holding, further, Sampled, Among}
+use Rattle.edit_order.proofs.Work.{unchanged-below, set-same, reached-same, sampled-same}
+use Rattle.edit_order.proofs.Walking.{dropped-fewer}
 
--- what the tables are taken for, and which samples are asked for
-pub record Given (ρ : Roles) (count : ℕ) (found : ℕ → ℕ) (ws : List ℕ) (all i : ℕ) : Type 0 where
-  pub few : candidateCount ρ ≤ 128
-  pub down : HoldsAt downStart (candidateCount ρ) (downFrom ρ) ws
-  pub samples : Sampled ρ count found ws
-  pub everyone : all ≡ collect 128 (λ j. ltb j count)
-  pub one : i < count
-
--- of all samples those are left that have each role of sample i that is not in `rest`
-pub record Left (count : ℕ) (found : ℕ → ℕ) (i left rest : ℕ) : Type 0 where
-  pub within : (k : ℕ) → So (has rest k) → So (has (found i) k)
-  pub exactly : (j : ℕ) → So (has left j) ↔ ((j < count) × ((k : ℕ) → So (has (found i) k) → (So (has rest k) → ⊥) → So (has (found j) k)))
-
-abbrev pub Narrowing : List ℕ → ℕ → ℕ → ℕ → ℕ → Type 0
-Narrowing ws all i left rest = (ρ : Roles) (count : ℕ) (found : ℕ → ℕ) → Given ρ count found ws all i → Left count found i left rest
+-- of `all` samples those are left that have each role of sample i that is not in `rest`
+pub record Narrowing (ws : List ℕ) (all i left rest : ℕ) : Type 0 where
+  pub within : (k : ℕ) → So (has rest k) → So (has (entry ws samplesStart i) k)
+  pub exactly : (j : ℕ) → So (has left j)
+      ↔ (So (has all j) × ((k : ℕ) → So (has (entry ws samplesStart i) k) → (So (has rest k) → ⊥) → So (has (entry ws samplesStart j) k)))
 
 pub narrowing-start : (ws : List ℕ) (all i rest : ℕ) → rest ≡ entry ws samplesStart i → Narrowing ws all i all rest
-narrowing-start ws all i rest er ρ count found g =
-    let e : rest ≡ found i = er ∙ g .samples .roles i (g .one) in
-    let n = g .samples .few in
-    record {
-      within = λ k t. rw e at t;
-      exactly = λ j. (
-        λ t. (ltb-iff j count .0 (collect-iff 128 (λ j. ltb j count) j .0 (rw (g .everyone) at t) .1), λ k h out. absurd (out (rw e h))),
-        λ w. let l = w .0 in rw (g .everyone) (collect-iff 128 (λ j. ltb j count) j .1 (omega arith, ltb-iff j count .1 (w .0))),
-      );
-    }
-
--- those are left that hold k too, and with it all that lies within k
-pub narrowing-more : (ws : List ℕ) (all i left rest k held left' down mid rest' : ℕ) → Narrowing ws all i left rest → So (has rest k)
-    → held ≡ entry ws holdingStart k → left' ≡ left ∩ held → down ≡ entry ws downStart k → mid ≡ rest ∖ down → rest' ≡ mid ∖ single k
-    → Narrowing ws all i left' rest'
-unfolding holding
-narrowing-more ws all i left rest k held left' down mid rest' inv there eh el ed em er ρ count found g =
-    let v = inv ρ count found g in
-    let S = g .samples in
-    let user = S .of-users .user-of in
-    let mine = v .within k there in
-    let of-i = user i (g .one) in
-    let lk : k < candidateCount ρ = rolesOfUser-iff ρ (of-i .0) k .0 (rw (of-i .2) at mine) .0 in
-    let test : ℕ → Bool = λ j. has (found j) k in
-    let hold : held ≡ collect count test = eh ∙ S .held k lk in
-    let within-k : down ≡ downFrom ρ k = ed ∙ g .down k lk in
-    let out : (q : ℕ) → So (has rest' q) → So (has rest q) × (So (has (downFrom ρ k) q) → ⊥) × (So (has (single k) q) → ⊥) =
-    λ q t.
-    let a = ∖-iff mid (single k) q .0 (rw er at t) in
-    let b = ∖-iff rest down q .0 (rw em at (a .0)) in
-    (b .0, λ d. b .1 (rw within-k d), a .1) in
-    record {
-      within = λ q t. v .within q (out q t .0);
-      exactly = λ j. (
-        λ t.
-            let a = ∩-iff left held j .0 (rw el at t) in
-            let b = v .exactly j .0 (a .0) in
-            let has-k : So (has (found j) k) = collect-iff count test j .0 (rw hold at (a .1)) .1 in
-            let w = user j (b .0) in (
-              b .0,
-              λ q h gone.
-                  by-test (has rest q)
-                  (λ r.
-                  equal-or k q (λ (d : k ≡ q). rw d at has-k)
-                  (λ d.
-                  by-test (has (downFrom ρ k) q) (λ y. rw (w .2) (user-down ρ (w .0) k q (rw (w .2) at has-k) y))
-                  (λ y.
-                  absurd
-                  (gone
-                  (rw er
-                  (∖-iff mid (single k) q .1 (rw em (∖-iff rest down q .1 (r, λ z. So-not y (rw within-k at z))), λ z. d (single-iff k q .0 z))))))))
-                  (λ r. b .1 q h (So-not r)),
-            ),
-        λ w.
-            let gone : So (has rest' k) → ⊥ = λ t. out k t .2 (single-iff k k .1 refl) in
-            rw el
-            (∩-iff left held j .1 (
-              v .exactly j .1 (w .0, λ q h r. w .1 q h (λ t. r (out q t .0))),
-              rw hold (collect-iff count test j .1 (w .0, w .1 k mine gone)),
-            )),
-      );
-    }
+narrowing-start ws all i rest e =
+    record { within = λ k t. rw e at t; exactly = λ j. (λ t. (t, λ k h out. absurd (out (rw e h))), λ w. w .0) }
 
 pub narrowing-all : (ws : List ℕ) (all i left rest : ℕ) → Narrowing ws all i left rest → rest ≡ 0
-    → (ρ : Roles) (count : ℕ) (found : ℕ → ℕ) → candidateCount ρ ≤ 128 → HoldsAt downStart (candidateCount ρ) (downFrom ρ) ws → Sampled ρ count found ws
-    → all ≡ collect 128 (λ j. ltb j count) → i < count → left ≡ further count found i
-unfolding further
-narrowing-all ws all i left rest inv e ρ count found few down samples ea li =
-    let v = inv ρ count found (record { few = few; down = down; samples = samples; everyone = ea; one = li }) in
-    let test : ℕ → Bool = λ j. subset (found i) (found j) in
-    same-set left (collect count test)
-    (λ j t.
-    let a = v .exactly j .0 t in
-    collect-iff count test j .1 (a .0, subset-iff (found i) (found j) .1 (λ k h. a .1 k h (λ x. So-not (has-zero k) (rw e at x)))))
-    (λ j t. let a = collect-iff count test j .0 t in v .exactly j .1 (a .0, λ k h out. subset-iff (found i) (found j) .0 (a .1) k h))
+    → (j : ℕ) → So (has left j) ↔ (So (has all j) × So (subset (entry ws samplesStart i) (entry ws samplesStart j)))
+narrowing-all ws all i left rest inv e j =
+    let mine = entry ws samplesStart i in
+    let other = entry ws samplesStart j in (
+      λ t. let a = inv .exactly j .0 t in (a .0, subset-iff mine other .1 (λ k h. a .1 k h (λ x. So-not (has-zero k) (rw e at x)))),
+      λ w. inv .exactly j .1 (w .0, λ k h out. subset-iff mine other .0 (w .1) k h),
+    )
+
+module _ (ws : List ℕ) (all i left rest : ℕ) (a : Among ws all i) (inv : Narrowing ws all i left rest) (k : ℕ) (there : So (has rest k)) where
+  -- the user whose roles a sample has
+  user : (j : ℕ) → j < a .count → (u : ℕ) × (entry ws samplesStart j ≡ rolesOfUser (a .whose) u)
+  user j l = let w = a .samples .of-users .user-of j l in (w .0, a .samples .roles j l ∙ w .2)
+
+  role : k < candidateCount (a .whose)
+  role = let u = user i (a .one) in rolesOfUser-iff (a .whose) (u .0) k .0 (rw (u .1) at (inv .within k there)) .0
+
+  module _ (down : ℕ) (ed : down ≡ entry ws downStart k) where
+    below : down ≡ downFrom (a .whose) k
+    below = ed ∙ a .reach .down k role
+
+    pub narrowing-fewer : ones (rest ∖ down) < ones rest
+    narrowing-fewer = dropped-fewer rest down k there (rw below (downFrom-iff (a .whose) k k .1 (role, subset-refl (permissionSet (a .whose) k))))
+
+    -- those are left that hold k too, and with it all that lies within k
+    pub narrowing-more : (held left' rest' : ℕ) → held ≡ entry ws holdingStart k → left' ≡ left ∩ held → rest' ≡ rest ∖ down → Narrowing ws all i left' rest'
+    unfolding holding
+    narrowing-more held left' rest' eh el er =
+        let ρ = a .whose in
+        let test : ℕ → Bool = λ j. has (a .found j) k in
+        let hold : held ≡ collect (a .count) test = eh ∙ a .samples .held k role in
+        let out : (q : ℕ) → So (has rest' q) → So (has rest q) × (So (has down q) → ⊥) = λ q t. ∖-iff rest down q .0 (rw er at t) in
+        record {
+          within = λ q t. inv .within q (out q t .0);
+          exactly = λ j. (
+            λ t.
+                let b = ∩-iff left held j .0 (rw el at t) in
+                let d = inv .exactly j .0 (b .0) in
+                let h = collect-iff (a .count) test j .0 (rw hold at (b .1)) in
+                let u = user j (h .0) in
+                let own : So (has (entry ws samplesStart j) k) = rw (a .samples .roles j (h .0)) (h .1) in
+                let mine : So (has (rolesOfUser ρ (u .0)) k) = rw (u .1) at own in (
+                  d .0,
+                  λ q s gone.
+                      by-test (has rest q)
+                      (λ r.
+                      by-test (has down q) (λ y. rw (u .1) (user-down ρ (u .0) k q mine (rw below at y)))
+                      (λ y. absurd (gone (rw er (∖-iff rest down q .1 (r, So-not y))))))
+                      (λ r. d .1 q s (So-not r)),
+                ),
+            λ w.
+                let l = a .everyone j .0 (w .0) in
+                let gone : So (has rest' k) → ⊥ = λ t. out k t .1 (rw below (downFrom-iff ρ k k .1 (role, subset-refl (permissionSet ρ k)))) in
+                rw el
+                (∩-iff left held j .1 (
+                  inv .exactly j .1 (w .0, λ q h r. w .1 q h (λ t. r (out q t .0))),
+                  rw hold (collect-iff (a .count) test j .1 (l, rw (a .samples .roles j l) at (w .1 k (inv .within k there) gone))),
+                )),
+          );
+        }
 
 -- ---- entry by entry
 
@@ -121,43 +101,63 @@ pub record Filling (count : ℕ) (before ws : List ℕ) (n : ℕ) : Type 0 where
   pub size : length ws ≡ workLength
   pub some : n ≤ count
   pub kept : Unchanged 0 furtherStart before ws
-  pub filled : (ρ : Roles) (found : ℕ → ℕ) → candidateCount ρ ≤ 128 → HoldsAt downStart (candidateCount ρ) (downFrom ρ) before → Sampled ρ count found before
-      → HoldsAt furtherStart n (further count found) ws
+  pub filled : HoldsAt furtherStart n (further count (entry before samplesStart)) ws
 
 pub filling-start : (count : ℕ) (ws : List ℕ) → length ws ≡ workLength → Filling count ws ws 0
 filling-start count ws size =
-    record {
-      size = size;
-      some = omega arith;
-      kept = λ i from to. refl;
-      filled = λ ρ found few down samples k l. absurd (let z : ⊥ = omega arith in z);
-    }
+    record { size = size; some = omega arith; kept = λ i from to. refl; filled = λ k l. absurd (let z : ⊥ = omega arith in z) }
 
-pub filling-more : (count all : ℕ) (before ws : List ℕ) (n r : ℕ) → count ≤ 128 → n < count → all ≡ collect 128 (λ j. ltb j count) → r < 2 ^ 128
-    → Filling count before ws n
-    → ((ρ : Roles) (size : ℕ) (found : ℕ → ℕ) → candidateCount ρ ≤ 128 → HoldsAt downStart (candidateCount ρ) (downFrom ρ) ws → Sampled ρ size found ws
-    → all ≡ collect 128 (λ j. ltb j size) → n < size → r ≡ further size found n)
-    → Filling count before (putAt ws (furtherStart + 2 * n) (wordsOf 2 r)) (n + 1)
-filling-more count all before ws n r few l ea small inv tells =
-    let next = putAt ws (furtherStart + 2 * n) (wordsOf 2 r) in
-    let size : length ws ≡ 1796 = inv .size in
-    record {
-      size = length-putAt ws (furtherStart + 2 * n) (wordsOf 2 r) ∙ inv .size;
-      some = omega arith;
-      kept = λ i from to. unchanged-below ws (furtherStart + 2 * n) (wordsOf 2 r) i from (omega arith) ∙ inv .kept i from to;
-      filled = λ ρ found fits down samples k lk.
-          equal-or k n
-          (λ (d : k ≡ n).
-          rw d
-          (stored-back ws (furtherStart + 2 * n) 2 r (omega arith) small
-          ∙ tells ρ count found fits (holds-same 0 furtherStart before ws (inv .kept) downStart (candidateCount ρ) (downFrom ρ) (omega arith) (omega arith) down)
-          (sampled-same 0 furtherStart before ws (inv .kept) ρ count found fits (omega arith) (omega arith) samples) ea l))
-          (λ d.
-          stored-before ws (furtherStart + 2 * n) 2 r (furtherStart + 2 * k) 2 (omega arith) ∙ inv .filled ρ found fits down samples k (omega arith));
-    }
+module _ (count : ℕ) (before ws : List ℕ) (n all : ℕ) (given : (ρ : Roles) × (found : ℕ → ℕ) × Reached ρ before × Sampled ρ count found before)
+    (inv : Filling count before ws n) (l : n < count) (ea : all ≡ collect 128 (λ j. ltb j count)) where
+  everyone : (j : ℕ) → So (has all j) ↔ (j < count)
+  everyone j = (
+    λ t. ltb-iff j count .0 (collect-iff 128 (λ j. ltb j count) j .0 (rw ea at t) .1),
+    λ b. let few = given .3 .few in rw ea (collect-iff 128 (λ j. ltb j count) j .1 (omega arith, ltb-iff j count .1 b)),
+  )
+
+  pub filling-among : Among ws all n
+  filling-among =
+      record {
+        whose = given .0;
+        count = count;
+        found = given .1;
+        reach = reached-same 0 furtherStart before ws (inv .kept) (given .0) (inv .size) (omega arith) (omega arith) (given .2);
+        samples = sampled-same 0 furtherStart before ws (inv .kept) (given .0) count (given .1) (given .2 .few) (omega arith) (omega arith) (given .3);
+        one = l;
+        everyone = everyone;
+      }
+
+  same : (j : ℕ) → j < count → entry ws samplesStart j ≡ entry before samplesStart j
+  same j b = let few = given .3 .few in set-same 0 furtherStart before ws (inv .kept) (samplesStart + 2 * j) (omega arith) (omega arith)
+
+  pub filling-more : (r : ℕ) → r < 2 ^ 128
+      → ((j : ℕ) → So (has r j) ↔ (So (has all j) × So (subset (entry ws samplesStart n) (entry ws samplesStart j))))
+      → Filling count before (putAt ws (furtherStart + 2 * n) (wordsOf 2 r)) (n + 1)
+  unfolding further
+  filling-more r small tells =
+      let size = inv .size in
+      let few = given .3 .few in
+      let at = furtherStart + 2 * n in
+      let f = entry before samplesStart in
+      let test : ℕ → Bool = λ j. subset (f n) (f j) in
+      let e : r ≡ collect count test =
+      same-set r (collect count test)
+      (λ j t.
+      let a = tells j .0 t in
+      let b = everyone j .0 (a .0) in
+      collect-iff count test j .1 (b, rw (same n l, same j b) at (a .1)))
+      (λ j t.
+      let a = collect-iff count test j .0 t in
+      tells j .1 (everyone j .1 (a .0), rw (same n l, same j (a .0)) (a .1))) in
+      record {
+        size = length-putAt ws at (wordsOf 2 r) ∙ inv .size;
+        some = omega arith;
+        kept = λ i from to. unchanged-below ws at (wordsOf 2 r) i from (omega arith) ∙ inv .kept i from to;
+        filled = λ k b.
+            equal-or k n (λ (d : k ≡ n). rw d (stored-back ws at 2 r (omega arith) small ∙ e))
+            (λ d. stored-before ws at 2 r (furtherStart + 2 * k) 2 (omega arith) ∙ inv .filled k (omega arith));
+      }
 
 pub filling-all : (count : ℕ) (before ws : List ℕ) (n : ℕ) → Filling count before ws n → count ≤ n
-    → Unchanged 0 furtherStart before ws
-    × ((ρ : Roles) (found : ℕ → ℕ) → candidateCount ρ ≤ 128 → HoldsAt downStart (candidateCount ρ) (downFrom ρ) before → Sampled ρ count found before
-    → HoldsAt furtherStart count (further count found) ws)
-filling-all count before ws n inv l = (inv .kept, λ ρ found few down samples k lk. inv .filled ρ found few down samples k (omega arith))
+    → Unchanged 0 furtherStart before ws × HoldsAt furtherStart count (further count (entry before samplesStart)) ws
+filling-all count before ws n inv l = (inv .kept, λ k b. inv .filled k (omega arith))

@@ -7,6 +7,7 @@ use mathlib.Core.List.{List}
 use Prim.Native.Nat.{ℕ, _+_, _*_, _≤_, _<_}
 use native.Mathlib.Omega.{arith}
 use lib.Dec.{ltb}
+use lib.ListN.{length}
 use Rattle.sets.specs.Truth.{if_then_else_}
 use Rattle.sets.specs.Sets.{has, _∪_, single, collect}
 use Rattle.sets.proofs.Truth.{So-not, equal-or, ltb-iff, if-true}
@@ -19,7 +20,7 @@ use Rattle.model.proofs.Shortcuts.{rolesOfPermission-iff, downFrom-iff, upFrom-
 use Rattle.tables.specs.Tables.{Holds}
 use Rattle.hierarchy.specs.Tables.{Numbered, Lowest}
 use Rattle.edit_order.specs.Ranking.{LowestOf}
-use Rattle.edit_order.specs.Work.{downStart, upStart, entries, HoldsAt, holding, Placed}
+use Rattle.edit_order.specs.Work.{workLength, downStart, entries, holding, Reached, Placed}
 
 -- ---- the first holders
 
@@ -83,12 +84,15 @@ up-column ρ k down l held =
     (λ i t. let a = collect-iff c test i .0 t in upFrom-iff ρ k i .1 (a .0, downFrom-iff ρ i k .0 (rw (held i (a .0)) at (a .1)) .1))
     (λ i t. let a = upFrom-iff ρ k i .0 t in collect-iff c test i .1 (a .0, rw (held i (a .0)) (downFrom-iff ρ i k .1 (l, a .1))))
 
-pub reached : (low down before ws : List ℕ) (c : ℕ) → Holds 2 c (λ k. setAt 2 low (2 * k) ∪ single k) down
+pub reached : (low down before ws : List ℕ) (c : ℕ) → length ws ≡ workLength → Holds 2 c (λ k. setAt 2 low (2 * k) ∪ single k) down
     → Placed down c c downStart before ws → (ρ : Roles) → candidateCount ρ ≡ c → Numbered ρ → Holds 2 (candidateCount ρ) (lower ρ) low
-    → HoldsAt downStart (candidateCount ρ) (downFrom ρ) ws × HoldsAt upStart (candidateCount ρ) (upFrom ρ) ws
-reached low down before ws c filled put ρ e numbered lows =
+    → Reached ρ ws
+reached low down before ws c size filled put ρ e numbered lows =
     let held : Holds 2 (candidateCount ρ) (downFrom ρ) down =
-    λ k l. filled k (rw e at l) ∙ ap (λ (y : ℕ). y ∪ single k) (lows k l) ∙ down-lower ρ (numbered .distinct) k l in (
-      λ k l. put .sets k (rw e at l) ∙ held k l,
-      λ k l. put .columns k (rw e at l) ∙ rw e at (up-column ρ k down l held),
-    )
+    λ k l. filled k (rw e at l) ∙ ap (λ (y : ℕ). y ∪ single k) (lows k l) ∙ down-lower ρ (numbered .distinct) k l in
+    record {
+      size = size;
+      few = numbered .few;
+      down = λ k l. put .sets k (rw e at l) ∙ held k l;
+      up = λ k l. put .columns k (rw e at l) ∙ rw e at (up-column ρ k down l held);
+    }

@@ -26,7 +26,7 @@ use Rattle.tables.proofs.Parts.{setAt-part}
 use Rattle.tables.proofs.Stores.{stored-back, stored-before, stored-after}
 use Rattle.indexes.proofs.Sources.{setAt-zero}
 use Rattle.edit_order.specs.Ranking.{Keyed}
-use Rattle.edit_order.specs.Work.{workLength, ranksStart, entry, Unchanged, Prepared, PreparedFor}
+use Rattle.edit_order.specs.Work.{workLength, ranksStart, ranksLength, entry, Unchanged, Prepared, PreparedFor}
 use Rattle.edit_order.proofs.Work.{unchanged-below, unchanged-take, prepared-same}
 
 -- one word more is zero
@@ -151,10 +151,10 @@ module _ (before : List ℕ) (c counted worklist : ℕ) (ws : List ℕ) (rest : 
   pub sorting-all : (first : List ℕ) → length first ≡ workLength → c ≤ 128 → Cleared c first before → rest ≡ 0
       → (take ranksStart ws ≡ take ranksStart first)
       × ((st : State) → Limits st → candidateCount (rolesOf st) ≡ c → Prepared (rolesOf st) first
-      → Keyed c (take 258 (drop ranksStart ws)) worklist (redundancy (rolesOf st) counted))
+      → Keyed c (take ranksLength (drop ranksStart ws)) worklist (redundancy (rolesOf st) counted))
   sorting-all first ef few clear e = (
     unchanged-take ranksStart first ws (inv .size ∙ sym ef) (omega arith) (λ i from to. inv .kept i from to ∙ clear .kept i from to),
     λ st lim n P k t.
         let o = inv .done st lim n (same-tables first before (clear .size) (clear .kept) (rolesOf st) P) k t (λ x. So-not (has-zero k) (rw e at x)) in
-        (o .0, λ q l. rw (setAt-part 2 ranksStart 258 ws (2 * q) (omega arith)) (o .1 q l)),
+        (o .0, λ q l. rw (setAt-part 2 ranksStart ranksLength ws (2 * q) (omega arith)) (o .1 q l)),
   )

@@ -88,7 +88,7 @@ module _ (b s : ℕ) (P : ℕ → ℕ → Type 0) (m rest : ℕ) (inv : Left b s
   left-above i m' there step x l h = let a = inv .same x .0 (l, h) in step x (a .0) (a .1 i there)
 
 -- what is dropped has the item that is done, so fewer are left
-dropped-fewer : (s d i : ℕ) → So (has s i) → So (has d i) → ones (s ∖ d) < ones s
+pub dropped-fewer : (s d i : ℕ) → So (has s i) → So (has d i) → ones (s ∖ d) < ones s
 dropped-fewer s d i h t = let a = ones-∖ s d in let b = ones-some (s ∩ d) i (∩-iff s d i .1 (h, t)) in omega arith
 
 -- ---- one sample: `own` are the roles counted that it has
@@ -126,14 +126,14 @@ module _ (ws : List ℕ) (own b s m rest : ℕ) (given : (ρ : Roles) × Prepare
           left =
               left-more b s (One ws own) m rest (inv .left) g d m' rest' (a .there) (a .number)
               (λ x j t l.
-              let down = rw (ed ∙ P .down g known) at t in
-              rw (P .up j (downFrom-iff ρ g j .0 down .0)) (nearer-holder ρ own x g j down (rw (P .up g known) at l))) er;
+              let down = rw (ed ∙ P .reach .down g known) at t in
+              rw (P .reach .up j (downFrom-iff ρ g j .0 down .0)) (nearer-holder ρ own x g j down (rw (P .reach .up g known) at l))) er;
         }
 
     pub asking-fewer : (d : ℕ) → d ≡ entry ws downStart g → ones (rest ∖ d) < ones rest
     asking-fewer d ed =
         let ρ = given .0 in
-        dropped-fewer rest d g (a .there) (rw (ed ∙ given .1 .down g known) (downFrom-iff ρ g g .1 (known, subset-refl (permissionSet ρ g))))
+        dropped-fewer rest d g (a .there) (rw (ed ∙ given .1 .reach .down g known) (downFrom-iff ρ g g .1 (known, subset-refl (permissionSet ρ g))))
 
     -- the floor is met
     pub asking-stop : (floor : ℕ) → m' ≤ floor → LeastTo floor m' b s (λ g. ones (own ∩ entry ws upStart g))
@@ -186,7 +186,7 @@ pub record Begun (ws : List ℕ) (c k hs ss : ℕ) : Type 0 where
 
 -- all in the work
 pub in-work : (c k : ℕ) (ws : List ℕ) → PreparedFor c ws → k < c → (length ws ≡ workLength) × (k < 128)
-in-work c k ws given l = let n = given .1 in let f = given .2 .few in (given .2 .size, omega arith)
+in-work c k ws given l = let n = given .1 in let f = given .2 .reach .few in (given .2 .reach .size, omega arith)
 
 module _ (ws : List ℕ) (c k hs ss : ℕ) (b : Begun ws c k hs ss) where
   -- the samples and the first holders that are asked, in the tables of these roles
@@ -204,7 +204,7 @@ module _ (ws : List ℕ) (c k hs ss : ℕ) (b : Begun ws c k hs ss) where
     roles i t = P .samples .roles i (held i .0 t .0)
 
     holders : hs ≡ downFrom ρ k ∩ firstHolders ρ
-    holders = b .holders ∙ ap₂ (λ (y z : ℕ). y ∩ z) (P .down k role) (P .first)
+    holders = b .holders ∙ ap₂ (λ (y z : ℕ). y ∩ z) (P .reach .down k role) (P .first)
 
   pub holders-below : (ρ : Roles) × Prepared ρ ws × (hs < 2 ^ candidateCount ρ)
   unfolding firstHolders
@@ -218,7 +218,7 @@ module _ (ws : List ℕ) (c k hs ss : ℕ) (b : Begun ws c k hs ss) where
   walk-iff counted st lim n P x =
       let ρ = rolesOf st in
       let up : (g : ℕ) → So (has hs g) → entry ws upStart g ≡ upFrom ρ g =
-      λ g t. P .up g (downFrom-iff ρ k g .0 (∩-iff (downFrom ρ k) (firstHolders ρ) g .0 (rw (holders ρ n P) at t) .0) .0) in (
+      λ g t. P .reach .up g (downFrom-iff ρ k g .0 (∩-iff (downFrom ρ k) (firstHolders ρ) g .0 (rw (holders ρ n P) at t) .0) .0) in (
         λ w.
             redundancy-ends st lim counted k x (role ρ n P) .1 (
               rw n (w .0),

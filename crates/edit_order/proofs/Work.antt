@@ -1,12 +1,13 @@
 -- What stands in the work after a part of it was written.
 -- Assumes nothing.
-use mathlib.Core.Path.{_≡_, sym, _∙_, ap}
+use mathlib.Core.Path.{_≡_, sym, _∙_, ap, ap₂}
 use mathlib.Core.List.{List, _++_}
 use Prim.Native.Nat.{ℕ, _+_, _*_, _^_, _≤_, _<_}
 use native.Mathlib.Omega.{arith}
 use lib.ListN.{length, getD, take, drop, length-drop}
 use lib.Seq.{ext-getD, length-take-le, getD-take, getD-drop}
-use Rattle.sets.specs.Sets.{has, collect}
+use Rattle.sets.specs.Sets.{has, subset, collect}
+use Rattle.sets.proofs.Order.{collect-same}
 use Rattle.model.specs.Lists.{setAt}
 use Rattle.model.specs.Hierarchy.{Roles, candidateCount}
 use Rattle.model.specs.Indexes.{rolesOfUser, downFrom, upFrom, firstHolders}
@@ -16,7 +17,7 @@ use Rattle.stores.proofs.Stores.{length-putAt, putAt-below, putAt-above, putAt-
 use Rattle.tables.specs.Stores.{wordsOf}
 use Rattle.tables.specs.Tables.{Holds}
 use Rattle.tables.proofs.Stores.{stored-back}
-use Rattle.edit_order.specs.Work.{workLength, downStart, upStart, samplesStart, furtherStart, firstStart, ranksStart, entries, HoldsAt, Unchanged, usersWithRoles, SamplesOf, holding, further, Sampled, Prepared, Placed}
+use Rattle.edit_order.specs.Work.{workLength, downStart, upStart, samplesStart, holdingStart, furtherStart, firstStart, ranksStart, ranksLength, entries, entry, HoldsAt, Unchanged, Reached, usersWithRoles, SamplesOf, holding, further, Sampled, Prepared, Placed}
 
 -- ---- words that are as before
 
@@ -44,6 +45,16 @@ module _ (a b : ℕ) (xs ys : List ℕ) (same : Unchanged a b xs ys) where
   pub holds-same : (at n : ℕ) (f : ℕ → ℕ) → a ≤ at → at + 2 * n ≤ b → HoldsAt at n f xs → HoldsAt at n f ys
   holds-same at n f l h held k lk = set-same (at + 2 * k) (omega arith) (omega arith) ∙ held k lk
 
+  pub reached-same : (ρ : Roles) → length ys ≡ workLength → a ≤ downStart → samplesStart ≤ b → Reached ρ xs → Reached ρ ys
+  reached-same ρ size l h r =
+      let few = r .few in
+      record {
+        size = size;
+        few = r .few;
+        down = holds-same downStart (candidateCount ρ) (downFrom ρ) l (omega arith) (r .down);
+        up = holds-same upStart (candidateCount ρ) (upFrom ρ) (omega arith) (omega arith) (r .up);
+      }
+
   pub sampled-same : (ρ : Roles) (count : ℕ) (found : ℕ → ℕ) → candidateCount ρ ≤ 128 → a ≤ samplesStart → furtherStart ≤ b → Sampled ρ count found xs
       → Sampled ρ count found ys
   sampled-same ρ count found few l h s =
@@ -52,24 +63,24 @@ module _ (a b : ℕ) (xs ys : List ℕ) (same : Unchanged a b xs ys) where
         few = s .few;
         of-users = s .of-users;
         roles = holds-same samplesStart count found l (omega arith) (s .roles);
-        held = holds-same 1024 (candidateCount ρ) (holding count found) (omega arith) (omega arith) (s .held);
+        held = holds-same holdingStart (candidateCount ρ) (holding count found) (omega arith) (omega arith) (s .held);
       }
 
 pub prepared-same : (ρ : Roles) (xs ys : List ℕ) → length ys ≡ workLength → Unchanged downStart ranksStart xs ys → Prepared ρ xs → Prepared ρ ys
 prepared-same ρ xs ys size same p =
-    let few = p .few in
     let n = p .samples .few in
     record {
-      size = size;
-      few = p .few;
-      down = holds-same 256 1538 xs ys same 256 _ _ (omega arith) (omega arith) (p .down);
-      up = holds-same 256 1538 xs ys same 512 _ _ (omega arith) (omega arith) (p .up);
+      reach = reached-same downStart ranksStart xs ys same ρ size (omega arith) (omega arith) (p .reach);
       count = p .count;
       found = p .found;
-      samples = sampled-same 256 1538 xs ys same ρ _ _ (p .few) (omega arith) (omega arith) (p .samples);
-      beyond = holds-same 256 1538 xs ys same 1280 _ _ (omega arith) (omega arith) (p .beyond);
-      first = set-same 256 1538 xs ys same 1536 (omega arith) (omega arith) ∙ p .first;
+      samples = sampled-same downStart ranksStart xs ys same ρ _ _ (p .reach .few) (omega arith) (omega arith) (p .samples);
+      beyond = holds-same downStart ranksStart xs ys same furtherStart _ _ (omega arith) (omega arith) (p .beyond);
+      first = set-same downStart ranksStart xs ys same firstStart (omega arith) (omega arith) ∙ p .first;
     }
+
+-- what lies below the ranks is as before
+pub prepared-taken : (ρ : Roles) (xs ys : List ℕ) → length ys ≡ workLength → take ranksStart ys ≡ take ranksStart xs → Prepared ρ xs → Prepared ρ ys
+prepared-taken ρ xs ys size e p = prepared-same ρ xs ys size (λ i from to. take-unchanged ranksStart xs ys e i (omega arith) to) p
 
 -- ---- another first region: the seniors after an edit
 
@@ -83,17 +94,17 @@ module _ (ws seniors : List ℕ) (size : length ws ≡ workLength) (first : leng
   pub seniors-prepared : (ρ : Roles) → Prepared ρ ws → Prepared ρ (putAt ws 0 seniors)
   seniors-prepared ρ p = prepared-same ρ ws (putAt ws 0 seniors) seniors-length (λ i from to. seniors-beside i from (omega arith)) p
 
-  pub seniors-ranks : take 258 (drop ranksStart (putAt ws 0 seniors)) ≡ take 258 (drop ranksStart ws)
+  pub seniors-ranks : take ranksLength (drop ranksStart (putAt ws 0 seniors)) ≡ take ranksLength (drop ranksStart ws)
   seniors-ranks =
-      let n : length (take 258 (drop ranksStart ws)) ≡ 258 = length-take-le 258 (drop ranksStart ws) (simp length-drop (omega arith)) in
-      let m : length (take 258 (drop ranksStart (putAt ws 0 seniors))) ≡ 258 =
-      length-take-le 258 (drop ranksStart (putAt ws 0 seniors)) (let l = seniors-length in simp length-drop (omega arith)) in
-      ext-getD 0 (take 258 (drop ranksStart (putAt ws 0 seniors))) (take 258 (drop ranksStart ws)) (m ∙ sym n)
+      let n : length (take ranksLength (drop ranksStart ws)) ≡ ranksLength = length-take-le ranksLength (drop ranksStart ws) (simp length-drop (omega arith)) in
+      let m : length (take ranksLength (drop ranksStart (putAt ws 0 seniors))) ≡ ranksLength =
+      length-take-le ranksLength (drop ranksStart (putAt ws 0 seniors)) (let l = seniors-length in simp length-drop (omega arith)) in
+      ext-getD 0 (take ranksLength (drop ranksStart (putAt ws 0 seniors))) (take ranksLength (drop ranksStart ws)) (m ∙ sym n)
       (λ i h.
-      let b : i < 258 = rw m at h in
-      getD-take 258 (drop ranksStart (putAt ws 0 seniors)) i 0 b ∙ getD-drop ranksStart (putAt ws 0 seniors) i 0
+      let b : i < ranksLength = rw m at h in
+      getD-take ranksLength (drop ranksStart (putAt ws 0 seniors)) i 0 b ∙ getD-drop ranksStart (putAt ws 0 seniors) i 0
       ∙ seniors-beside (ranksStart + i) (omega arith) (omega arith)
-      ∙ sym (getD-take 258 (drop ranksStart ws) i 0 b ∙ getD-drop ranksStart ws i 0))
+      ∙ sym (getD-take ranksLength (drop ranksStart ws) i 0 b ∙ getD-drop ranksStart ws i 0))
 
 -- ---- a table placed in two regions
 
@@ -112,7 +123,7 @@ unfolding holding
 placed table ws ws1 out n c at w k et ln lc ew fits ww e1 held eo ek =
     let src = take w table in
     let ls : length src ≡ w = length-take-le w table (omega arith) in
-    let l1 : length ws1 ≡ 1796 = ap length e1 ∙ length-putAt ws at src ∙ ew in
+    let l1 : length ws1 ≡ workLength = ap length e1 ∙ length-putAt ws at src ∙ ew in
     let ws2 = putAt ws1 (at + 256) out in
     let below = unchanged-below ws1 (at + 256) out in
     rw (part-back ws1 (at + 256) k out (eo ∙ sym ek) (omega arith))
@@ -131,6 +142,12 @@ pub sampled : (table before ws : List ℕ) (count c : ℕ) → count ≤ 128 →
 sampled table before ws count c few put ρ e samples =
     (entries table, record { few = few; of-users = samples; roles = put .sets; held = λ k l. put .columns k (rw e at l) })
 
+-- the same roles of each sample, and so the same further up
+further-same : (count : ℕ) (f g : ℕ → ℕ) → ((i : ℕ) → i < count → f i ≡ g i) → (i : ℕ) → i < count → further count f i ≡ further count g i
+unfolding further
+further-same count f g same i l =
+    collect-same count (λ j. subset (f i) (f j)) (λ j. subset (g i) (g j)) (λ j lj. ap₂ (λ (x y : ℕ). subset x y) (same i l) (same j lj))
+
 -- ---- all of it, region by region
 
 module _ (ws1 ws2 ws3 ws4 : List ℕ) (first : ℕ) (size : length ws3 ≡ workLength) (kept2 : Unchanged 0 samplesStart ws1 ws2)
@@ -146,26 +163,19 @@ module _ (ws1 ws2 ws3 ws4 : List ℕ) (first : ℕ) (size : length ws3 ≡ workL
       unchanged-take downStart before ws4 (length4 ∙ sym l) (omega arith)
       (λ i from to. kept4 i from (omega arith) ∙ kept3 i from (omega arith) ∙ kept2 i from (omega arith) ∙ kept1 i from to)
 
-  pub prepared : (count : ℕ) → first < 2 ^ 128 → (ρ : Roles) → candidateCount ρ ≤ 128
-      → HoldsAt downStart (candidateCount ρ) (downFrom ρ) ws1 × HoldsAt upStart (candidateCount ρ) (upFrom ρ) ws1
-      → (found : ℕ → ℕ) × Sampled ρ count found ws2
-      → ((found : ℕ → ℕ) → HoldsAt downStart (candidateCount ρ) (downFrom ρ) ws2 → Sampled ρ count found ws2 → HoldsAt furtherStart count (further count found) ws3)
-      → first ≡ firstHolders ρ → Prepared ρ ws4
-  prepared count small ρ few reach samples further-from ef =
-      let c = candidateCount ρ in
+  pub prepared : (count : ℕ) → first < 2 ^ 128 → (ρ : Roles) → Reached ρ ws1 → (found : ℕ → ℕ) × Sampled ρ count found ws2
+      → HoldsAt furtherStart count (further count (entry ws2 samplesStart)) ws3 → first ≡ firstHolders ρ → Prepared ρ ws4
+  prepared count small ρ reach samples beyond ef =
       let n = samples .1 .few in
-      let down2 = holds-same 0 samplesStart ws1 ws2 kept2 downStart c (downFrom ρ) (omega arith) (omega arith) (reach .0) in
-      let kept34 : Unchanged 0 furtherStart ws2 ws4 = λ i from to. kept4 i from (omega arith) ∙ kept3 i from to in
+      let kept24 : Unchanged 0 furtherStart ws2 ws4 = λ i from to. kept4 i from (omega arith) ∙ kept3 i from to in
+      let kept14 : Unchanged 0 samplesStart ws1 ws4 = unchanged-trans 0 samplesStart furtherStart ws1 ws2 ws4 (omega arith) kept2 kept24 in
       record {
-        size = length4;
-        few = few;
-        down = holds-same 0 furtherStart ws2 ws4 kept34 downStart c (downFrom ρ) (omega arith) (omega arith) down2;
-        up =
-            holds-same 0 furtherStart ws2 ws4 kept34 upStart c (upFrom ρ) (omega arith) (omega arith)
-            (holds-same 0 samplesStart ws1 ws2 kept2 upStart c (upFrom ρ) (omega arith) (omega arith) (reach .1));
+        reach = reached-same 0 samplesStart ws1 ws4 kept14 ρ length4 (omega arith) (omega arith) reach;
         count = count;
         found = samples .0;
-        samples = sampled-same 0 furtherStart ws2 ws4 kept34 ρ count (samples .0) few (omega arith) (omega arith) (samples .1);
-        beyond = holds-same 0 firstStart ws3 ws4 kept4 furtherStart count (further count (samples .0)) (omega arith) (omega arith) (further-from (samples .0) down2 (samples .1));
+        samples = sampled-same 0 furtherStart ws2 ws4 kept24 ρ count (samples .0) (reach .few) (omega arith) (omega arith) (samples .1);
+        beyond = λ i l.
+            holds-same 0 firstStart ws3 ws4 kept4 furtherStart count (further count (entry ws2 samplesStart)) (omega arith) (omega arith) beyond i l
+            ∙ further-same count (entry ws2 samplesStart) (samples .0) (samples .1 .roles) i l;
         first = ap (λ (l : List ℕ). setAt 2 l firstStart) stored ∙ stored-back ws3 firstStart 2 first (omega arith) small ∙ ef;
       }

@@ -2,6 +2,7 @@
 -- Assumes nothing.
 use mathlib.Core.Path.{_≡_}
 use mathlib.Core.Bool.{So}
+use mathlib.Core.Logic.{_↔_}
 use mathlib.Core.List.{List}
 use Prim.Native.Nat.{ℕ, _+_, _*_, _≤_, _<_}
 use lib.Dec.{eqb}
@@ -11,6 +12,8 @@ use Rattle.sets.specs.Sets.{has, subset, collect}
 use Rattle.model.specs.Lists.{setAt}
 use Rattle.model.specs.Hierarchy.{Roles, candidateCount}
 use Rattle.model.specs.Indexes.{rolesOfUser, downFrom, upFrom, firstHolders}
+use Rattle.hierarchy.specs.Tables.{Numbered}
+use Rattle.indexes.specs.Index.{Indexed}
 
 -- how many words it has, and where each region starts
 abbrev pub workLength : ℕ
@@ -37,6 +40,10 @@ firstStart = 1536
 abbrev pub ranksStart : ℕ
 ranksStart = 1538
 
+-- the ranks, the last region, have an entry to each redundancy from 0 to 128
+abbrev pub ranksLength : ℕ
+ranksLength = 258
+
 -- entry k of a table, and of the region that starts at place `at`
 abbrev pub entries : List ℕ → ℕ → ℕ
 entries table k = setAt 2 table (2 * k)
@@ -51,6 +58,13 @@ HoldsAt at n f ws = (k : ℕ) → k < n → entry ws at k ≡ f k
 -- the words from place `from` on and before place `to` are as before
 abbrev pub Unchanged : ℕ → ℕ → List ℕ → List ℕ → Type 0
 Unchanged from to before ws = (i : ℕ) → from ≤ i → i < to → getD ws i 0 ≡ getD before i 0
+
+-- the roles down and up from each
+pub record Reached (ρ : Roles) (ws : List ℕ) : Type 0 where
+  pub size : length ws ≡ workLength
+  pub few : candidateCount ρ ≤ 128
+  pub down : HoldsAt downStart (candidateCount ρ) (downFrom ρ) ws
+  pub up : HoldsAt upStart (candidateCount ρ) (upFrom ρ) ws
 
 -- ---- sample users: one for each set of roles that users have
 
@@ -78,13 +92,20 @@ pub record Sampled (ρ : Roles) (count : ℕ) (found : ℕ → ℕ) (ws : List �
   pub roles : HoldsAt samplesStart count found ws
   pub held : HoldsAt holdingStart (candidateCount ρ) (holding count found) ws
 
+-- sample i is one of `all` samples, for some roles
+pub record Among (ws : List ℕ) (all i : ℕ) : Type 0 where
+  pub whose : Roles
+  pub count : ℕ
+  pub found : ℕ → ℕ
+  pub reach : Reached whose ws
+  pub samples : Sampled whose count found ws
+  pub one : i < count
+  pub everyone : (j : ℕ) → So (has all j) ↔ (j < count)
+
 -- ---- what the redundancies of these roles are computed from; it changes with the crew list only
 
 pub record Prepared (ρ : Roles) (ws : List ℕ) : Type 0 where
-  pub size : length ws ≡ workLength
-  pub few : candidateCount ρ ≤ 128
-  pub down : HoldsAt downStart (candidateCount ρ) (downFrom ρ) ws
-  pub up : HoldsAt upStart (candidateCount ρ) (upFrom ρ) ws
+  pub reach : Reached ρ ws
   -- how many samples there are, and the roles of each
   pub count : ℕ
   pub found : ℕ → ℕ
@@ -92,9 +113,12 @@ pub record Prepared (ρ : Roles) (ws : List ℕ) : Type 0 where
   pub beyond : HoldsAt furtherStart count (further count found) ws
   pub first : setAt 2 ws firstStart ≡ firstHolders ρ
 
--- prepared for some roles, c of them
+-- prepared for some roles, c of them; and an index of some roles, c of them
 abbrev pub PreparedFor : ℕ → List ℕ → Type 0
 PreparedFor c ws = (ρ : Roles) × (candidateCount ρ ≡ c) × Prepared ρ ws
+
+abbrev pub IndexedFor : ℕ → List ℕ → Type 0
+IndexedFor c index = (ρ : Roles) × (candidateCount ρ ≡ c) × Numbered ρ × Indexed ρ index
 
 -- the n sets of a table in the region that starts at place `at`, and the table's c columns in the region after it; what stands before is as before
 pub record Placed (table : List ℕ) (n c at : ℕ) (before ws : List ℕ) : Type 0 where

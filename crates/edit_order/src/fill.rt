@@ -4,12 +4,11 @@ ghost use Prim.Native.Nat.{ℕ, _+_, _*_, _≤_};
 ghost use lib.ListN.{length, take};
 ghost use Rattle.sets.specs.Sets.{_∪_, single};
 ghost use Rattle.model.specs.Hierarchy.{Roles, candidateCount};
-ghost use Rattle.model.specs.Indexes.{downFrom, upFrom};
 ghost use Rattle.model.specs.Lists.{setAt};
 ghost use Rattle.tables.specs.Tables.{Filled};
 ghost use Rattle.hierarchy.specs.Tables.{Numbered};
 ghost use Rattle.indexes.specs.Index.{indexLength, Indexed, AllHolders};
-ghost use Rattle.edit_order.specs.Work.{workLength, downStart, upStart, samplesStart, HoldsAt, Unchanged, Sampled, Prepared, Placed};
+ghost use Rattle.edit_order.specs.Work.{workLength, downStart, samplesStart, Unchanged, Reached, Sampled, Prepared, IndexedFor, Placed};
 use crate::further::fill_further;
 use crate::holders::first_holders;
 use crate::layout::DOWN;
@@ -53,7 +52,7 @@ fn place(table: &[u64], n: usize, c: usize, work: &mut [u64], at: usize)
 fn fill_reach(index: &[u64], c: usize, work: &mut [u64])
     requires { ⌜ (length (now index) ≡ indexLength) × (c ≤ 128) × (length (now work) ≡ workLength) ⌝ }
     ensures { λ r. ⌜ Unchanged 0 downStart (now (work .entry)) (now (work .exit)) ⌝ }
-    ensures { λ r. ⌜ ((ρ : Roles) → candidateCount ρ ≡ c → Numbered ρ → Indexed ρ (now (index .entry)) → HoldsAt downStart (candidateCount ρ) (downFrom ρ) (now (work .exit)) × HoldsAt upStart (candidateCount ρ) (upFrom ρ) (now (work .exit))) ⌝ }
+    ensures { λ r. ⌜ ((ρ : Roles) → candidateCount ρ ≡ c → Numbered ρ → Indexed ρ (now (index .entry)) → Reached ρ (now (work .exit))) ⌝ }
 {
     let mut down = [0u64; 256];
     fill_down(&index[LOWER..ROLES], c, &mut down);
@@ -75,9 +74,8 @@ fn fill_samples(index: &[u64], c: usize, work: &mut [u64]) -> usize
 
 // All of it but the seniors and the ranks.
 pub fn fill_order(index: &[u64], m: usize, c: usize, work: &mut [u64])
-    requires { ⌜ length (now index) ≡ indexLength ⌝ }
+    requires { ⌜ IndexedFor c (now index) ⌝ }
     requires { ⌜ m ≤ 256 ⌝ }
-    requires { ⌜ c ≤ 128 ⌝ }
     requires { ⌜ length (now work) ≡ workLength ⌝ }
     ensures { λ r. ⌜ take downStart (now (work .exit)) ≡ take downStart (now (work .entry)) ⌝ }
     ensures { λ r. ⌜ ((ρ : Roles) → candidateCount ρ ≡ c → ρ .permissions ≡ m → Numbered ρ → Indexed ρ (now (index .entry)) → AllHolders ρ (now (index .entry)) → Prepared ρ (now (work .exit))) ⌝ }

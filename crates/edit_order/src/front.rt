@@ -5,6 +5,7 @@ ghost use Prim.Native.Nat.{_≤_};
 ghost use lib.ListN.{length};
 ghost use Rattle.sets.specs.Held.{set128};
 ghost use Rattle.edit_order.specs.Ranking.{Next};
+ghost use Rattle.edit_order.specs.Work.{ranksLength};
 use hierarchy::lowest_item;
 use sets::Set128;
 use tables::load128;
@@ -18,7 +19,7 @@ pub struct Front {
 // The role of `todo` with the largest key, and of several such the lowest. No key is above `top`: the key of the role before, so that a pass walks
 // down the ranks once.
 pub fn foremost(ranks: &[u64], todo: Set128, top: usize) -> Front
-    requires { ⌜ length (now ranks) ≡ 258 ⌝ }
+    requires { ⌜ length (now ranks) ≡ ranksLength ⌝ }
     requires { ⌜ set128 todo ≢ 0 ⌝ }
     requires { ⌜ top ≤ 128 ⌝ }
     ensures { λ r. ⌜ Next (now (ranks .entry)) (set128 todo) top (r .role) (r .rank) ⌝ }

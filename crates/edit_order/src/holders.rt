@@ -11,6 +11,7 @@ use hierarchy::lowest_item;
 use sets::Set128;
 use tables::load128;
 
+// The set with the lowest item of s in it, where s has one.
 fn with_lowest(found: Set128, s: Set128) -> Set128
     ensures { λ r. ⌜ ((i : ℕ) → So (has (set128 r) i) ↔ (So (has (set128 found) i) ⊎ Lowest (set128 s) i)) ⌝ }
 {

@@ -1,5 +1,5 @@
 // The words of an elimination's work. A region has an entry of two words to a role or to a sample user; the ranks have one to each redundancy from 0
-// to 128. The immediate seniors are the first region; they belong to those who edit the record.
+// to 128. The immediate seniors, the first region, belong to those who edit the record.
 pub const WORK_LENGTH: usize = 1796;
 
 pub const SENIORS: usize = 0;

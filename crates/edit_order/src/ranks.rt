@@ -8,7 +8,7 @@ ghost use Rattle.model.specs.Machine.{redundancy};
 ghost use Rattle.model.specs.Record.{Limits};
 ghost use Rattle.model.specs.State.{State, rolesOf};
 ghost use Rattle.edit_order.specs.Ranking.{Keyed};
-ghost use Rattle.edit_order.specs.Work.{ranksStart, Prepared, PreparedFor};
+ghost use Rattle.edit_order.specs.Work.{ranksStart, ranksLength, Prepared, PreparedFor};
 use crate::layout::RANKS;
 use crate::redundancy::redundancy;
 use hierarchy::lowest_item;
@@ -16,6 +16,7 @@ use sets::Set128;
 use tables::load128;
 use tables::store128;
 
+// Makes all words zero.
 fn clear(ws: &mut [u64])
     ensures { λ r. ⌜ ((i : ℕ) → i < length (now (ws .exit)) → getD (now (ws .exit)) i 0 ≡ 0) ⌝ }
 {
@@ -31,7 +32,7 @@ pub fn fill_ranks(work: &mut [u64], c: usize, counted: Set128, worklist: Set128)
     requires { ⌜ PreparedFor c (now work) ⌝ }
     requires { ⌜ set128 worklist < 2 ^ c ⌝ }
     ensures { λ r. ⌜ take ranksStart (now (work .exit)) ≡ take ranksStart (now (work .entry)) ⌝ }
-    ensures { λ r. ⌜ ((st : State) → Limits st → candidateCount (rolesOf st) ≡ c → Prepared (rolesOf st) (now (work .entry)) → Keyed c (take 258 (drop ranksStart (now (work .exit)))) (set128 worklist) (redundancy (rolesOf st) (set128 counted))) ⌝ }
+    ensures { λ r. ⌜ ((st : State) → Limits st → candidateCount (rolesOf st) ≡ c → Prepared (rolesOf st) (now (work .entry)) → Keyed c (take ranksLength (drop ranksStart (now (work .exit)))) (set128 worklist) (redundancy (rolesOf st) (set128 counted))) ⌝ }
 {
     let end = RANKS + 2 * c + 2;
     clear(&mut work[RANKS..end]);

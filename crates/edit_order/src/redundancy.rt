@@ -70,8 +70,8 @@ fn least_of(
 }
 
 // The least, over the grants that role k covers, of the number of roles of `counted` that cover the grant; c where k covers none. The roles that
-// cover a grant are the user's roles that are up from the first holder of the permission. So sample users are asked, and of them the nearest: those
-// with all their roles give no smaller numbers. Fewer roles have higher numbers.
+// cover a grant are the user's roles that are up from the first holder of the permission. So sample users are asked, those with few roles first, which
+// have the higher numbers: whoever has all their roles, and more, gives no smaller number and is not asked.
 pub fn redundancy(work: &[u64], c: usize, counted: Set128, k: usize) -> usize
     requires { ⌜ PreparedFor c (now work) ⌝ }
     requires { ⌜ k < c ⌝ }

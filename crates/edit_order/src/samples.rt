@@ -48,7 +48,7 @@ fn add_samples(index: &[u64], users: Set128, table: &mut [u64], count: usize) ->
 }
 
 // The samples of all users, and how many they are. A user is met at the highest of the user's roles, from the last role down: so users with the same
-// roles come together, and of two samples the one that has all roles of the other comes before it.
+// roles come together, and a sample that has all roles of another and a higher one comes before it.
 pub fn find_samples(index: &[u64], c: usize, table: &mut [u64]) -> usize
     requires { ⌜ (length (now index) ≡ indexLength) × (c ≤ 128) × (length (now table) ≡ 256) ⌝ }
     ensures { λ r. ⌜ r ≤ 128 ⌝ }

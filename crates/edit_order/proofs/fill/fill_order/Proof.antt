@@ -5,11 +5,11 @@ use Prim.Native.Nat.{_^_, _<_}
 use mathlib.Core.Path.{_≡_}
 use native.Mathlib.Omega.{arith}
 use lib.ListN.{length}
-use Rattle.edit_order.specs.Work.{workLength}
+use Rattle.edit_order.specs.Work.{workLength, samplesStart}
 use Rattle.sets.specs.Held.{set128}
 use Rattle.sets.proofs.Written.{words, held128}
 use Rattle.edit_order.proofs.Reaching.{first-found}
-use Rattle.edit_order.proofs.Work.{left-alone, prepared}
+use Rattle.edit_order.proofs.Work.{reached-same, left-alone, prepared}
 use Rattle.edit_order.proofs.fill.fill_order.Statement.{statement}
 use Rattle.edit_order.proofs.fill.fill_order.Tie as tie
 
@@ -23,7 +23,13 @@ fill-samples-requires : tie.Need-fill-samples-requires
 fill-samples-requires c κs = search needs
 
 fill-further-requires : tie.Need-fill-further-requires
-fill-further-requires c κs = search needs
+fill-further-requires c κs =
+    let samples = c .before .before .before in
+    let reach = samples .before .before .before .before in
+    let ix = reach .before .before .before .before .pre .0 in
+    let found = samples .fill-samples .ensures .1 .1 (ix .0) (ix .1) (ix .3) in
+    let size : length (samples .fill-samples .last .1 .1 .0) ≡ workLength = omega arith in
+    (ix .0, found .0, reached-same 0 samplesStart (reach .fill-reach .last .1 .1 .0) _ (samples .fill-samples .ensures .1 .0) _ size (omega arith) (omega arith) (reach .fill-reach .ensures .1 (ix .0) (ix .1) (ix .2) (ix .3)), found .1)
 
 sub-first-holders : tie.Need-sub-first-holders
 sub-first-holders c = search needs
@@ -57,11 +63,10 @@ returns c =
     let kept2 = samples .fill-samples .ensures .1 .0 in
     let kept3 = further .fill-further .ensures .0 in
     let stored = c .before .before .store128 .ensures in (
-      left-alone w1 w2 w3 _ _ size kept2 kept3 stored (start .args .work .now) (start .pre .1 .1 .1) (reach .fill-reach .ensures .0),
+      left-alone w1 w2 w3 _ _ size kept2 kept3 stored (start .args .work .now) (start .pre .1 .1) (reach .fill-reach .ensures .0),
       λ ρ ec em numbered ix held.
-          prepared w1 w2 w3 _ _ size kept2 kept3 stored _ (narrow holders) ρ (numbered .few) (reach .fill-reach .ensures .1 ρ ec numbered ix)
-          (samples .fill-samples .ensures .1 .1 ρ ec ix) (λ found. further .fill-further .ensures .1 ρ found (numbered .few))
-          (first-found ρ _ _ _ (numbered .few) em (λ p l. held p (rw em l)) (holders .first-holders .ensures)),
+          prepared w1 w2 w3 _ _ size kept2 kept3 stored _ (narrow holders) ρ (reach .fill-reach .ensures .1 ρ ec numbered ix) (samples .fill-samples .ensures .1 .1 ρ ec ix)
+          (further .fill-further .ensures .1) (first-found ρ _ _ _ (numbered .few) em (λ p l. held p (rw em l)) (holders .first-holders .ensures)),
     )
 
 pub fill-order-spec : {M : Type 1} → statement M

@@ -5,7 +5,7 @@ use Prim.Native.Nat.{_-_, _^_, _<_}
 use native.Mathlib.Omega.{arith}
 use Rattle.sets.specs.Held.{set128}
 use Rattle.sets.proofs.Written.{words, held128}
-use Rattle.edit_order.proofs.Narrowing.{Filling, filling-start, filling-more, filling-all}
+use Rattle.edit_order.proofs.Narrowing.{Filling, filling-start, filling-among, filling-more, filling-all}
 use Rattle.edit_order.proofs.further.fill_further.Statement.{statement}
 use Rattle.edit_order.proofs.further.fill_further.Tie as tie
 
@@ -19,19 +19,21 @@ below-requires : tie.Need-below-requires Inv-loop μ-loop
 below-requires c κs = search needs
 
 loop-holds : tie.Need-loop-holds Inv-loop μ-loop
-loop-holds c = filling-start _ _ (c .before .before .pre .0)
+loop-holds c = filling-start _ _ (c .before .before .pre .2 .size)
 
 mul-store128 : tie.Need-mul-store128 Inv-loop μ-loop
-mul-store128 c = search needs
+mul-store128 c = let n = c .before .before .before .before .before .pre .3 .few in omega arith
 
 add-store128 : tie.Need-add-store128 Inv-loop μ-loop
-add-store128 c = search needs
+add-store128 c = let n = c .before .before .before .before .before .pre .3 .few in omega arith
 
 further-from-requires : tie.Need-further-from-requires Inv-loop μ-loop
-further-from-requires c κs = let z = c .before .before .before .loop .inv .size in (omega arith, omega arith)
+further-from-requires c κs =
+    let turn = c .before .before in
+    filling-among _ _ _ _ _ (turn .before .before .before .before .pre) (turn .before .loop .inv) (turn .loop-test .taken) (turn .before .before .below .ensures)
 
 store128-requires : tie.Need-store128-requires Inv-loop μ-loop
-store128-requires c κs = let z = c .before .before .before .before .loop .inv .size in omega arith
+store128-requires c κs = let turn = c .before .before .before in let z = turn .before .loop .inv .size in let n = turn .before .before .before .before .pre .3 .few in omega arith
 
 add-i : tie.Need-add-i Inv-loop μ-loop
 add-i c = search needs
@@ -45,10 +47,10 @@ loop-again c =
     let turn = found .before .before .before in
     let small : set128 (found .further-from .result) < 2 ^ 128 = search (words, held128) in
     rw (c .before .before .store128 .ensures)
-    (filling-more _ _ _ _ _ _ (turn .before .before .before .before .pre .1) (turn .loop-test .taken) (turn .before .before .below .ensures) small (turn .before .loop .inv) (found .further-from .ensures))
+    (filling-more _ _ _ _ _ (turn .before .before .before .before .pre) (turn .before .loop .inv) (turn .loop-test .taken) (turn .before .before .below .ensures) _ small (found .further-from .ensures))
 
 same-length : tie.Need-same-length Inv-loop μ-loop
-same-length c = let z = c .before .loop .inv .size in omega arith
+same-length c = let z = c .before .loop .inv .size in let s = c .before .before .before .before .pre .2 .size in omega arith
 
 returns : tie.Need-returns Inv-loop μ-loop
 returns c = filling-all _ _ _ _ (c .before .loop .inv) (omega arith)

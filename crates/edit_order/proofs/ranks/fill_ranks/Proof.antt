@@ -22,11 +22,12 @@ abbrev μ-loop : tie.MeasureT-loop
 μ-loop work₀ c counted end rest₀ work rest = ones (set128 rest)
 
 at-start : (c : tie.Start Inv-loop μ-loop) → (length (c .args .work .now) ≡ workLength) × (c .args .c ≤ 128)
-at-start c = let n = c .pre .0 .1 in let f = c .pre .0 .2 .few in (c .pre .0 .2 .size, omega arith)
+at-start c = let n = c .pre .0 .1 in let f = c .pre .0 .2 .reach .few in (c .pre .0 .2 .reach .size, omega arith)
 
 -- the ranks are cleared, and ranks are small
 blank : (c : tie.After-clear Inv-loop μ-loop)
-    → Cleared (c .before .before .before .args .c) (c .before .before .before .args .work .now) (putMid ranksStart (ranksStart + 2 * c .before .before .before .args .c + 2 - ranksStart) (c .before .before .before .args .work .now) (c .clear .last .0))
+    → let start = c .before .before .before in
+    Cleared (start .args .c) (start .args .work .now) (putMid ranksStart (ranksStart + 2 * start .args .c + 2 - ranksStart) (start .args .work .now) (c .clear .last .0))
 blank c =
     let start = c .before .before .before in
     let f = at-start start in

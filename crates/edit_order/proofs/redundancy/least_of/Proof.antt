@@ -25,7 +25,8 @@ own-roles c = c .intersection .ensures ∙ ap (λ (x : ℕ). x ∩ set128 (c .be
 
 -- one holder is asked
 one : (c : tie.After-smaller Inv-loop μ-loop)
-    → Asked (c .before .before .before .before .before .before .before .before .before .before .before .args .work .now) (set128 (c .before .before .before .before .before .before .before .before .intersection .result)) (c .before .before .before .before .before .before .before .loop .least) (set128 (c .before .before .before .before .before .before .before .loop .rest)) (c .before .before .before .before .highest-item .result) (c .smaller .result)
+    → let test = c .before .before .before .before .before .before .before in
+    Asked (test .before .before .before .before .args .work .now) (set128 (test .before .intersection .result)) (test .loop .least) (set128 (test .loop .rest)) (c .before .before .before .before .highest-item .result) (c .smaller .result)
 one c = asked _ _ _ _ _ _ _ _ _ (c .before .before .before .before .highest-item .ensures .there) (c .before .before .before .load1282 .ensures) (c .before .before .intersection2 .ensures) (c .before .count .ensures) (c .smaller .ensures)
 
 mul-load128 : tie.Need-mul-load128 Inv-loop μ-loop
@@ -35,7 +36,7 @@ add-load128 : tie.Need-add-load128 Inv-loop μ-loop
 add-load128 c = search needs
 
 load128-requires : tie.Need-load128-requires Inv-loop μ-loop
-load128-requires c κs = let z = c .before .pre .1 .1 .size in omega arith
+load128-requires c κs = let z = c .before .pre .1 .1 .reach .size in omega arith
 
 intersection-requires : tie.Need-intersection-requires Inv-loop μ-loop
 intersection-requires c κs = search needs
@@ -56,7 +57,7 @@ add-load128-2 : tie.Need-add-load128-2 Inv-loop μ-loop
 add-load128-2 c = let l = c .highest-item .ensures .small in omega arith
 
 load128-requires-2 : tie.Need-load128-requires-2 Inv-loop μ-loop
-load128-requires-2 c κs = let l = c .highest-item .ensures .small in let z = c .before .before .before .before .before .before .before .pre .1 .1 .size in omega arith
+load128-requires-2 c κs = let l = c .highest-item .ensures .small in let z = c .before .before .before .before .before .before .before .pre .1 .1 .reach .size in omega arith
 
 intersection-requires-2 : tie.Need-intersection-requires-2 Inv-loop μ-loop
 intersection-requires-2 c κs = search needs
@@ -79,7 +80,7 @@ add-load128-3 : tie.Need-add-load128-3 Inv-loop μ-loop
 add-load128-3 c = let l = c .before .before .before .before .before .highest-item .ensures .small in omega arith
 
 load128-requires-3 : tie.Need-load128-requires-3 Inv-loop μ-loop
-load128-requires-3 c κs = let one = c .before .before .before .before .before in let l = one .highest-item .ensures .small in let z = one .before .before .before .before .before .before .before .pre .1 .1 .size in omega arith
+load128-requires-3 c κs = let one = c .before .before .before .before .before in let l = one .highest-item .ensures .small in let z = one .before .before .before .before .before .before .before .pre .1 .1 .reach .size in omega arith
 
 difference-requires : tie.Need-difference-requires Inv-loop μ-loop
 difference-requires c κs = search needs

@@ -81,7 +81,7 @@ add-load128-3 : tie.Need-add-load128-3 Inv-loop μ-loop
 add-load128-3 c = let l = c .before .before .highest-item .ensures .small in omega arith
 
 load128-requires-4 : tie.Need-load128-requires-4 Inv-loop μ-loop
-load128-requires-4 c κs = let one = c .before .before in let l = one .highest-item .ensures .small in let z = one .before .before .before .before .before .before .before .before .before .before .pre .0 .2 .size in omega arith
+load128-requires-4 c κs = let one = c .before .before in let l = one .highest-item .ensures .small in let z = one .before .before .before .before .before .before .before .before .before .before .pre .0 .2 .reach .size in omega arith
 
 difference-requires : tie.Need-difference-requires Inv-loop μ-loop
 difference-requires c κs = search needs
