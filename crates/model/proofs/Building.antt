@@ -15,7 +15,7 @@ use Rattle.sets.proofs.Truth.{and-iff, isnt-iff, eqb-iff, find}
 use Rattle.sets.proofs.Items.{item-below, empty-of}
 use Rattle.sets.proofs.Order.{subset-iff, subset-trans, proper-subset, proper-trans}
 use Rattle.model.specs.Hierarchy.{Roles, candidateCount, permissionSet, authorisedUsers, senior, immediatelySenior, immediateJuniors, directPermissions, directMembers, building}
-use Rattle.model.specs.Chains.{link, Chain, linksBut, Reaches, may}
+use Rattle.model.specs.Chains.{link, Chain, linksBut, Reaches, may, Member, Holds}
 use Rattle.model.specs.Chains.Chain.{one, more}
 use Rattle.model.specs.Coverage.{grant, covered, allCovered}
 use Rattle.model.proofs.Direct.{direct-absent, Side, last-direct}
@@ -178,6 +178,32 @@ module _ (ρ : Roles) (R : ℕ) (o : Ordered ρ R) where
       → (j : ℕ) × So (has (directPermissions ρ R j) p) × ((j ≡ k) ⊎ So (senior ρ R k j))
   unfolding directPermissions
   bottommost = last-direct (ρ .permissions) (candidateCount ρ) R (λ j k. senior ρ R k j) (permissionSet ρ) juniors-side
+
+  -- what a chain joins is senior and junior
+  reaches-senior : (k j : ℕ) → Reaches (link (building ρ R)) k j → (k ≡ j) ⊎ So (senior ρ R k j)
+  reaches-senior k j r = ⊎-elim (λ e. _⊎_.inl e) (λ d. _⊎_.inr (chain-senior (link (building ρ R)) (λ _ _ h. h) d)) r
+
+  -- the direct members of k and of the roles above it are A(k)
+  pub members-iff : (k u : ℕ) → So (has R k) → Member (building ρ R) k u ↔ So (has (authorisedUsers ρ k) u)
+  unfolding building
+  members-iff k u h = (
+    λ m.
+        let a = member-iff ρ R (m .role) u .0 (m .direct) .2 in
+        ⊎-elim (λ (e : m .role ≡ k). rw e at a) (λ s. senior-user (m .role) k u s a) (reaches-senior (m .role) k (m .above)),
+    λ t. let i = topmost k u h t in record { role = i .0; above = senior-reaches (i .0) k (i .2); direct = i .1 },
+  )
+
+  -- the direct permissions of k and of the roles below it are S(k)
+  pub holds-iff : (k p : ℕ) → So (has R k) → Holds (building ρ R) k p ↔ ((p < ρ .permissions) × So (has (permissionSet ρ k) p))
+  unfolding building
+  holds-iff k p h = (
+    λ d.
+        let a = permission-iff ρ R (d .role) p .0 (d .direct) in
+        (a .0, ⊎-elim (λ (e : k ≡ d .role). rw e (a .2)) (λ s. senior-permission k (d .role) p s (a .2)) (reaches-senior k (d .role) (d .below))),
+    λ t.
+        let j = bottommost k p (t .0) h (t .1) in
+        record { role = j .0; below = senior-reaches k (j .0) (⊎-elim (λ e. _⊎_.inl (sym e)) (λ s. _⊎_.inr s) (j .2)); direct = j .1 },
+  )
 
   -- a direct member of a role is authorised for all that the role holds: "authorised exactly when" some standing role covers the grant
   pub may-covered : (u p : ℕ) → p < ρ .permissions → So (may (candidateCount ρ) (building ρ R) u p) ↔ So (covered ρ R u p)

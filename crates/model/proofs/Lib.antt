@@ -20,6 +20,7 @@ pub mod Elimination
 pub mod Review
 pub mod Bounds
 pub mod Steps
+pub mod Calls
 pub mod Claim
 pub mod Shortcuts
 pub mod Intervals
