@@ -130,7 +130,7 @@ module _ (st : State) (f : Fit st) where
 
   -- ---- the standard
 
-  set-below : (k : ℕ) → k < candidateCount (rolesOf st) → permissionSet (rolesOf st) k < 2 ^ st .permissions
+  pub set-below : (k : ℕ) → k < candidateCount (rolesOf st) → permissionSet (rolesOf st) k < 2 ^ st .permissions
   unfolding rolesOf candidateCount permissionSet
   set-below k l =
       candidate-bound (st .rows) (2 ^ st .permissions) (λ u b. f .limits .rows-below u (rw (f .limits .rows-count) at b))

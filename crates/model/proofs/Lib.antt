@@ -21,7 +21,9 @@ pub mod Review
 pub mod Bounds
 pub mod Steps
 pub mod Calls
+pub mod Faults
 pub mod Claim
 pub mod Shortcuts
 pub mod Intervals
 pub mod Sound
+pub mod Conditions

@@ -37,6 +37,16 @@ pub orElse-next : (a b : ℕ) → a ≡ 0 → a orElse b ≡ b
 unfolding _orElse_
 orElse-next a b e = ap (λ (x : ℕ). x orElse b) e
 
+pub orElse-none : (a : ℕ) → a orElse 0 ≡ a
+unfolding _orElse_
+orElse-none zero = refl
+orElse-none (suc a) = refl
+
+pub orElse-assoc : (a b c : ℕ) → (a orElse b) orElse c ≡ a orElse b orElse c
+unfolding _orElse_
+orElse-assoc zero b c = refl
+orElse-assoc (suc a) b c = refl
+
 pub orElse-iff : (a b : ℕ) → (a orElse b ≡ 0) ↔ ((a ≡ 0) × (b ≡ 0))
 unfolding _orElse_
 orElse-iff zero b = (λ e. (refl, e), λ f. f .1)

@@ -10,5 +10,6 @@ pub mod Altered
 pub mod Refusals
 pub mod Machine
 pub mod Calls
+pub mod Conditions
 pub mod Claim
 pub mod Indexes

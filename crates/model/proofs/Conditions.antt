@@ -1,0 +1,364 @@
+-- Conditions 1 and 2 hold of what each call's definition gives.
+-- Assumes nothing.
+use mathlib.Core.Path.{_≡_, refl, sym, _∙_, ap, subst}
+use mathlib.Core.Bool.{Bool, true, So}
+use mathlib.Core.Logic.{_↔_, _≢_, _⊎_, ⊎-elim, Iff·trans}
+use mathlib.Core.List.{List, [], _∷_}
+use Prim.Native.Nat.{ℕ, zero, suc, _*_, _≤_, _<_}
+use native.Mathlib.Omega.{arith}
+use lib.ListN.{length, getD}
+use lib.Seq.{ext-getD}
+use Rattle.sets.specs.Truth.{bit}
+use Rattle.sets.specs.Sets.{has, _∪_, _∖_, single}
+use Rattle.sets.proofs.Truth.{either, by-test, So-not, not-So, bit-true, bit-false, reflect}
+use Rattle.sets.proofs.Items.{item-below, below-of-items}
+use Rattle.sets.proofs.Order.{∪-iff, ∖-iff, single-iff, collect-iff}
+use Rattle.model.specs.Lists.{setAt, rowsAt, OneOf}
+use Rattle.model.specs.Candidates.{Intersection, Listed, candidates}
+use Rattle.model.specs.Hierarchy.{RoleRows, candidateCount, permissionSet}
+use Rattle.model.specs.Chains.{may}
+use Rattle.model.specs.Coverage.{strikable}
+use Rattle.model.specs.Quality.{Weights, Tolerance, weightsAllowed, toleranceAllowed, counted, counts, weigh, quality}
+use Rattle.model.specs.State.{State, rolesOf, standingNow, fresh, rowsWithin}
+use Rattle.model.specs.Record.{recordLength, crewStart, setsStart, built, stateOf, roleRowsOf, crewRow, Stands, sound}
+use Rattle.model.specs.Refusals.{_orElse_, soundnessRefusal, roleRefusal, absentRefusal, standingRefusal, strikeRefusal, pairRefusal, weightsRefusal, lengthRefusal, candidatesRefusal}
+use Rattle.model.specs.Machine.{Call, reply, refusal, accepted, Outcome}
+use Rattle.model.specs.Machine.Call.{strike, restore, eliminate, review}
+use Rattle.model.specs.Calls.{unfit, miningRefusal, Mined, mine, Edited, edit, Told, told, qualityOf, mayOf}
+use Rattle.model.specs.Conditions.{Fault, fault, numbersOf, Exactly, Condition1, Bare, MoreThan, WeightsInRange, ToleranceInRange, miningFaults, MinedFrom, MiningConditions, EditCondition1, StrikeConditions, RestoreConditions, EliminateConditions, ReviewConditions, QualityConditions, MayConditions}
+use Rattle.model.proofs.Growing.{among-length}
+use Rattle.model.proofs.Candidates.{candidate-iff, candidates-growing}
+use Rattle.model.proofs.Lists.{length-rowsAt, getD-rowsAt}
+use Rattle.model.proofs.Record.{withinLimits-iff, rowsWithin-iff, read-users, read-permissions, read-count, read-standing, state-back}
+use Rattle.model.proofs.Refusals.{Check, orElse-assoc, orElse-iff, unfit-iff, length-check, limits-check, crew-check, candidates-check, soundness-check, role-check, pair-check, absent-check, standing-check, strike-check, weights-check, eliminate-check, strike-iff}
+use Rattle.model.proofs.Steps.{Fit, mining-fit, step-accepted}
+use Rattle.model.proofs.Calls.{mine-code, mine-accepted, mine-refused, edit-code, edit-refused, told-accepted, told-refused, told-code}
+use Rattle.model.proofs.Claim.{fit-sound, code-is, edit-state, set-read}
+use Rattle.model.proofs.Sound.{sound-count, sound-rows, may-authorised, may-granted, sound-stands, strikable-read, bare-read}
+use Rattle.model.proofs.Faults.{Finds, finds-not, finds-as, Above, above-lower, Judged, judged-next, judged-last}
+
+-- ---- the numbers in range
+
+weights-iff : (w : Weights) → So (weightsAllowed w) ↔ WeightsInRange w
+unfolding weightsAllowed
+weights-iff w = (
+  λ h.
+      let x : (((w .perRole ≤ 1000) × (w .perMember ≤ 1000)) × (w .perPermission ≤ 1000)) × (w .perLink ≤ 1000) = simp reflect at h in
+      (x .0 .0 .0, x .0 .0 .1, x .0 .1, x .1),
+  λ f. simp reflect (((f .0, f .1), f .2), f .3),
+)
+
+tolerance-iff : (t : Tolerance) → So (toleranceAllowed t) ↔ ToleranceInRange t
+unfolding toleranceAllowed
+tolerance-iff t = (
+  λ h.
+      let x : (((1 ≤ t .denominator) × (t .denominator ≤ 1000)) × (t .denominator ≤ t .numerator)) × (t .numerator ≤ 2 * t .denominator) = simp reflect at h in
+      (x .0 .0 .0, x .0 .0 .1, x .0 .1, x .1),
+  λ f. simp reflect (((f .0, f .1), f .2), f .3),
+)
+
+-- a check that asks P finds that Q does not hold, where P is Q
+finds-other : {a n : ℕ} {P : Type 0} (Q : Type 0) → Check a n P → P ↔ Q → Finds a (fault n (¬ Q))
+finds-other Q c e = finds-as (¬ Q) (finds-not c) (λ d q. d (e .1 q), λ d p. d (e .0 p))
+
+holds : (t : Bool) → ¬ (¬ So t) → So t
+holds t d = by-test t (λ h. h) (λ f. absurd (d (So-not f)))
+
+-- ---- the record that a call is lent: 1, 5
+
+-- what is found in it, and then in the rest
+judged-record : (ws : List ℕ) (faults : List Fault) (b : ℕ) → Above 5 faults → (So (sound ws) → Judged faults b)
+    → Judged (fault 1 (length ws ≢ recordLength) ∷ fault 5 (¬ So (sound ws)) ∷ faults) (unfit ws orElse b)
+unfolding unfit
+judged-record ws faults b up rest =
+    let sounds : Fault = fault 5 (¬ So (sound ws)) in
+    subst (Judged (fault 1 (length ws ≢ recordLength) ∷ sounds ∷ faults)) (sym (orElse-assoc (lengthRefusal ws) (soundnessRefusal ws) b))
+    (judged-next (finds-not (length-check ws)) (sounds ∷ faults) (omega arith, above-lower 1 5 faults (omega arith) up) (soundnessRefusal ws orElse b)
+    (λ _. judged-next (finds-not (soundness-check ws)) faults up b (λ d. rest (holds (sound ws) d))))
+
+-- ---- each call's own checks
+
+module _ (ws : List ℕ) (h : So (sound ws)) (k : ℕ) where
+  finds-role : Finds (roleRefusal (rolesOf (stateOf ws)) k) (fault 6 (¬ (k < getD ws 2 0)))
+  finds-role = finds-not (rw (← sound-count ws h) at (role-check (rolesOf (stateOf ws)) k))
+
+  judged-strike : Judged (fault 6 (¬ (k < getD ws 2 0)) ∷ fault 7 (¬ Stands ws k) ∷ fault 8 (Bare ws k) ∷ []) (refusal (stateOf ws) (strike k))
+  unfolding refusal stateOf
+  judged-strike =
+      let R = setAt 2 ws 4 in
+      let ρ = rolesOf (stateOf ws) in
+      let rest = strikeRefusal ρ R k in
+      let bare : Stands ws k → Finds rest (fault 8 (Bare ws k)) =
+      λ s.
+      finds-as (Bare ws k) (finds-not (strike-check ρ R k))
+      (λ d. bare-read ws h k s (not-So (strikable ρ R k) d), λ b t. b .alone (strikable-read ws h k s .0 t (b .user) (b .permission) (b .covered))) in
+      judged-next finds-role (fault 7 (¬ Stands ws k) ∷ fault 8 (Bare ws k) ∷ []) (omega arith, (omega arith, tt)) (absentRefusal R k orElse rest)
+      (λ _. judged-next (finds-not (absent-check R k)) (fault 8 (Bare ws k) ∷ []) (omega arith, tt) rest (λ d. judged-last (bare (holds (has R k) d))))
+
+  judged-restore : Judged (fault 6 (¬ (k < getD ws 2 0)) ∷ fault 7 (Stands ws k) ∷ []) (refusal (stateOf ws) (restore k))
+  unfolding refusal stateOf
+  judged-restore =
+      let R = setAt 2 ws 4 in
+      judged-next finds-role (fault 7 (Stands ws k) ∷ []) (omega arith, tt) (standingRefusal R k)
+      (λ _. judged-last (finds-as (Stands ws k) (finds-not (standing-check R k)) (λ d. holds (has R k) (λ n. d (not-So (has R k) n)), λ s f. So-not f s)))
+
+judged-weights : (w : Weights) → Judged (fault 9 (¬ WeightsInRange w) ∷ []) (weightsRefusal w)
+judged-weights w = judged-last (finds-other (WeightsInRange w) (weights-check w) (weights-iff w))
+
+judged-eliminate : (st : State) (w : Weights) (t : Tolerance)
+    → Judged (fault 9 (¬ (WeightsInRange w × ToleranceInRange t)) ∷ []) (refusal st (eliminate w t))
+judged-eliminate st w t =
+    let a = weights-iff w in
+    let b = tolerance-iff t in
+    judged-last
+    (finds-other (WeightsInRange w × ToleranceInRange t) (eliminate-check st w t) (λ x. (a .0 (x .0), b .0 (x .1)), λ x. (a .1 (x .0), b .1 (x .1))))
+
+judged-pair : (ws : List ℕ) (u p : ℕ)
+    → Judged (fault 6 (¬ ((u < getD ws 0 0) × (p < getD ws 1 0))) ∷ []) (pairRefusal (stateOf ws .users) (stateOf ws .permissions) u p)
+unfolding stateOf
+judged-pair ws u p = judged-last (finds-not (pair-check (getD ws 0 0) (getD ws 1 0) u p))
+
+-- "crew words not 4n .. or a bit at m or above"
+crew-iff : (n m : ℕ) (crew : List ℕ)
+    → ((length crew ≡ 4 * n) × So (rowsWithin m (rowsAt n crew 0)))
+    ↔ ((length crew ≡ 4 * n) × ((u p : ℕ) → u < n → So (has (getD (rowsAt n crew 0) u 0) p) → p < m))
+crew-iff n m crew =
+    let rows = rowsAt n crew 0 in
+    let e = length-rowsAt n crew 0 in
+    let a = rowsWithin-iff m rows in (
+      λ x. (x .0, λ u p l t. item-below m (getD rows u 0) p (a .0 (x .1) u (rw e l)) t),
+      λ x. (
+        x .0,
+        a .1
+            (λ u l.
+            below-of-items m (getD rows u 0)
+            (λ i b. not-So (has (getD rows u 0) i) (λ t. let z = x .1 u i (rw e at l) t in let no : ⊥ = omega arith in no))),
+      ),
+    )
+
+-- "more than 128 candidates"
+more-iff : (rows : List ℕ) → (¬ (length (candidates rows) ≤ 128)) ↔ MoreThan 128 rows
+more-iff rows = (
+  λ d.
+      record {
+        sets = candidates rows;
+        once = candidates-growing rows;
+        intersections = λ x l. candidate-iff rows x .0 l;
+        more = either 128 (length (candidates rows)) (λ l. l) (λ l. absurd (d l));
+      },
+  λ x few.
+      let l = among-length (x .sets) (candidates rows) (x .once) (candidates-growing rows) (λ y t. candidate-iff rows y .1 (x .intersections y t)) in
+      let o = x .more in
+      let z : ⊥ = omega arith in z,
+)
+
+judged-mining : (n m : ℕ) (crew ws : List ℕ) → Judged (miningFaults n m crew ws) (miningRefusal n m crew ws)
+unfolding miningRefusal
+judged-mining n m crew ws =
+    let rows = rowsAt n crew 0 in
+    let four : Finds (candidatesRefusal rows) (fault 4 (MoreThan 128 rows)) = finds-as (MoreThan 128 rows) (finds-not (candidates-check rows)) (more-iff rows) in
+    judged-next (finds-not (length-check ws)) _ (omega arith, (omega arith, (omega arith, tt))) _
+    (λ _.
+    judged-next (finds-other _ (limits-check n m) (withinLimits-iff n m)) _ (omega arith, (omega arith, tt)) _
+    (λ _. judged-next (finds-other _ (crew-check n m crew) (crew-iff n m crew)) _ (omega arith, tt) _ (λ _. judged-last four)))
+
+-- ---- condition 1
+
+judged-condition : {faults : List Fault} {code : ℕ} (given : ℕ) (beside lent left : List ℕ) → Judged faults code → given ≡ code
+    → (code ≢ 0 → ((i : ℕ) → getD beside i 0 ≡ 0) × (left ≡ lent)) → Condition1 faults given beside lent left
+judged-condition {faults} {code} given beside lent left j e refused =
+    let no : given ≢ 0 → code ≢ 0 = λ d z. d (e ∙ z) in
+    record {
+      number = subst (λ (x : ℕ). OneOf x (0 ∷ numbersOf faults)) (sym e) (j .number);
+      exactly = subst (Exactly (Unit {0}) faults) (sym e) (j .exactly (Unit {0}) tt);
+      zeros = λ d. refused (no d) .0;
+      unaltered = λ d. refused (no d) .1;
+    }
+
+zeros1 : (i : ℕ) → _≡_ {A = ℕ} (getD (0 ∷ []) i 0) 0
+zeros1 zero = refl
+zeros1 (suc i) = refl
+
+zeros2 : (i : ℕ) → _≡_ {A = ℕ} (getD (0 ∷ 0 ∷ []) i 0) 0
+zeros2 zero = refl
+zeros2 (suc i) = zeros1 i
+
+mine-condition1 : (n m : ℕ) (crew ws : List ℕ)
+    → Condition1 (miningFaults n m crew ws) (mine n m crew ws .code) (mine n m crew ws .candidates ∷ []) ws (mine n m crew ws .words)
+mine-condition1 n m crew ws =
+    judged-condition (mine n m crew ws .code) (mine n m crew ws .candidates ∷ []) ws (mine n m crew ws .words) (judged-mining n m crew ws)
+    (mine-code n m crew ws) (λ d. rw (mine-refused n m crew ws d) (zeros1, refl))
+
+edit-condition1 : {faults : List Fault} (ws : List ℕ) (call : Call) → Judged faults (unfit ws orElse refusal (stateOf ws) call)
+    → EditCondition1 faults ws (edit ws call)
+unfolding reply
+edit-condition1 ws call j =
+    let e = edit ws call in
+    judged-condition (e .replied .code) (e .replied .changed ∷ e .replied .examined ∷ []) ws (e .words) j (edit-code ws call)
+    (λ d. rw (edit-refused ws call d) (zeros2, refl))
+
+told-condition1 : {faults : List Fault} (ws : List ℕ) (code value : ℕ) → Judged faults code
+    → Condition1 faults (told code value .code) (told code value .value ∷ []) ws ws
+told-condition1 ws code value j =
+    judged-condition (told code value .code) (told code value .value ∷ []) ws ws j (told-code code value)
+    (λ d. rw (told-refused code value d) (zeros1, refl))
+
+-- ---- mining
+
+module _ (n m : ℕ) (crew ws : List ℕ) (ok : miningRefusal n m crew ws ≡ 0) where
+  abbrev rows : List ℕ
+  rows = rowsAt n crew 0
+
+  abbrev c : ℕ
+  c = length (candidates (rowsAt n crew 0))
+
+  abbrev st : State
+  st = fresh n m (rowsAt n crew 0)
+
+  f : Fit (fresh n m (rowsAt n crew 0))
+  f = mining-fit n m crew ws ok
+
+  sets-read : rowsAt c (built st) setsStart ≡ candidates rows
+  unfolding fresh rolesOf candidateCount permissionSet
+  sets-read =
+      ext-getD 0 (rowsAt c (built st) setsStart) (candidates rows) (length-rowsAt c (built st) setsStart)
+      (λ k b. let l : k < c = rw (length-rowsAt c (built st) setsStart) at b in getD-rowsAt c (built st) setsStart k l ∙ set-read st f k l)
+
+  mined-from : MinedFrom n m crew c (built st)
+  unfolding fresh rolesOf candidateCount stateOf
+  mined-from =
+      record {
+        users = read-users st (f .limits);
+        permissions = read-permissions st (f .limits);
+        count = read-count st (f .limits);
+        rows = rw (read-users st (f .limits)) at (ap (λ (s : State). s .rows) (state-back st (f .limits)));
+        mined = λ x. rw sets-read (subst (λ (l : ℕ). Listed (candidates rows) x ↔ ((x ≢ 0) × Intersection rows l x)) (length-rowsAt n crew 0) (candidate-iff rows x));
+        growing = rw sets-read (candidates-growing rows);
+        standing = λ k.
+            rw (read-standing st (f .limits)) (λ s. collect-iff c (λ k. true) k .0 s .0, λ l. collect-iff c (λ k. true) k .1 (l, refl));
+        is-sound = fit-sound st f;
+      }
+
+pub mining-conditions : (n m : ℕ) (crew ws : List ℕ) (r : Mined) → r ≡ mine n m crew ws → MiningConditions n m crew ws r
+mining-conditions n m crew ws r e =
+    rw e
+    (record {
+      condition1 = mine-condition1 n m crew ws;
+      condition2 = λ z.
+          let ok : miningRefusal n m crew ws ≡ 0 = sym (mine-code n m crew ws) ∙ z in
+          rw (mine-accepted n m crew ws ok) (mined-from n m crew ws ok);
+    })
+
+-- ---- the editing calls
+
+-- an accepted call was lent a sound record, and leaves the standing set that the machine does
+module _ (ws : List ℕ) (call : Call) (z : edit ws call .replied .code ≡ 0) where
+  both-zero : (unfit ws ≡ 0) × (refusal (stateOf ws) call ≡ 0)
+  both-zero = orElse-iff (unfit ws) (refusal (stateOf ws) call) .0 (sym (edit-code ws call) ∙ z)
+
+  standing-after : setAt 2 (edit ws call .words) 4 ≡ accepted (stateOf ws) call .standing
+  unfolding stateOf standingNow
+  standing-after =
+      ap (λ (s : State). s .standing)
+      (edit-state ws (unfit-iff ws .0 (both-zero .0)) call ∙ ap (λ (o : Outcome). o .state) (step-accepted (stateOf ws) call (both-zero .1)))
+
+pub strike-conditions : (ws : List ℕ) (k : ℕ) (e : Edited) → e ≡ edit ws (strike k) → StrikeConditions ws k e
+unfolding accepted stateOf
+strike-conditions ws k e q =
+    rw q
+    (record {
+      condition1 =
+          edit-condition1 ws (strike k)
+          (judged-record ws _ (refusal (stateOf ws) (strike k)) (omega arith, (omega arith, (omega arith, tt))) (λ h. judged-strike ws h k));
+      condition2 = λ h s.
+          let i = strike-iff (stateOf ws) k in
+          let t = strikable-read ws h k s in
+          rw (code-is ws h (strike k)) (λ z. t .0 (i .0 z .2), λ x. i .1 (sound-stands ws h k s, s, t .1 x));
+      loses = λ z j.
+          rw (standing-after ws (strike k) z) (
+            λ x. let a = ∖-iff (setAt 2 ws 4) (single k) j .0 x in (a .0, λ y. a .1 (single-iff k j .1 (sym y))),
+            λ x. ∖-iff (setAt 2 ws 4) (single k) j .1 (x .0, λ y. x .1 (sym (single-iff k j .0 y))),
+          );
+    })
+
+pub restore-conditions : (ws : List ℕ) (k : ℕ) (e : Edited) → e ≡ edit ws (restore k) → RestoreConditions ws k e
+unfolding accepted stateOf
+restore-conditions ws k e q =
+    rw q
+    (record {
+      condition1 =
+          edit-condition1 ws (restore k)
+          (judged-record ws _ (refusal (stateOf ws) (restore k)) (omega arith, (omega arith, tt)) (λ h. judged-restore ws h k));
+      gains = λ z j.
+          rw (standing-after ws (restore k) z) (
+            λ x. ⊎-elim (λ y. _⊎_.inl y) (λ y. _⊎_.inr (sym (single-iff k j .0 y))) (∪-iff (setAt 2 ws 4) (single k) j .0 x),
+            λ x. ∪-iff (setAt 2 ws 4) (single k) j .1 (⊎-elim (λ y. _⊎_.inl y) (λ y. _⊎_.inr (single-iff k j .1 (sym y))) x),
+          );
+    })
+
+pub eliminate-conditions : (ws : List ℕ) (w : Weights) (t : Tolerance) (e : Edited) → e ≡ edit ws (eliminate w t) → EliminateConditions ws w t e
+eliminate-conditions ws w t e q =
+    rw q
+    (record { condition1 = edit-condition1 ws (eliminate w t) (judged-record ws _ (refusal (stateOf ws) (eliminate w t)) (omega arith, tt) (λ _. judged-eliminate (stateOf ws) w t)) })
+
+pub review-conditions : (ws : List ℕ) (w : Weights) (e : Edited) → e ≡ edit ws (review w) → ReviewConditions ws w e
+unfolding refusal
+review-conditions ws w e q =
+    rw q (record { condition1 = edit-condition1 ws (review w) (judged-record ws _ (weightsRefusal w) (omega arith, tt) (λ _. judged-weights w)) })
+
+-- ---- the reading calls
+
+-- an accepted question was asked of a sound record, and has its value
+module _ (ws : List ℕ) (rest value : ℕ) (z : told (unfit ws orElse rest) value .code ≡ 0) where
+  told-zero : (unfit ws ≡ 0) × (rest ≡ 0)
+  told-zero = orElse-iff (unfit ws) rest .0 (sym (told-code (unfit ws orElse rest) value) ∙ z)
+
+  told-value : told (unfit ws orElse rest) value .value ≡ value
+  told-value = ap (λ (t : Told). t .value) (told-accepted (unfit ws orElse rest) value (orElse-iff (unfit ws) rest .1 told-zero))
+
+pub quality-conditions : (ws : List ℕ) (w : Weights) (t : Told) → t ≡ qualityOf ws w → QualityConditions ws w t
+unfolding qualityOf quality counts
+quality-conditions ws w t q =
+    let st = stateOf ws in
+    let v = weigh w (counted (candidateCount (rolesOf st)) (roleRowsOf ws) (st .standing)) in
+    rw q
+    (record {
+      condition1 =
+          told-condition1 ws (unfit ws orElse weightsRefusal w) v (judged-record ws _ (weightsRefusal w) (omega arith, tt) (λ _. judged-weights w));
+      condition2 = λ z.
+          let h = unfit-iff ws .0 (told-zero ws (weightsRefusal w) v z .0) in
+          told-value ws (weightsRefusal w) v z
+          ∙ ap (λ (b : RoleRows). weigh w (counted (candidateCount (rolesOf st)) b (st .standing))) (sound-rows ws h);
+    })
+
+bit-iff : (t : Bool) → (bit t ≡ 1) ↔ So t
+bit-iff t = (
+  λ e. by-test t (λ h. h) (λ f. let z = sym (bit-false t f) ∙ e in let no : ⊥ = omega arith in absurd no),
+  bit-true t,
+)
+
+-- yes by the crew list
+by-crew : (ws : List ℕ) (u p : ℕ) → mayOf ws u p .code ≡ 0
+    → So (may (candidateCount (rolesOf (stateOf ws))) (roleRowsOf ws) u p) ↔ So (has (crewRow ws u) p)
+unfolding mayOf stateOf
+by-crew ws u p z =
+    let yes = may (candidateCount (rolesOf (stateOf ws))) (roleRowsOf ws) u p in
+    let a = told-zero ws (pairRefusal (getD ws 0 0) (getD ws 1 0) u p) (bit yes) z in
+    let l = pair-check (getD ws 0 0) (getD ws 1 0) u p .passed (a .1) in
+    rw (← getD-rowsAt (getD ws 0 0) ws crewStart u (l .0)) (may-granted ws (unfit-iff ws .0 (a .0)) u p (l .0) (l .1))
+
+pub may-conditions : (ws : List ℕ) (u p : ℕ) (t : Told) → t ≡ mayOf ws u p → MayConditions ws u p t
+unfolding mayOf
+may-conditions ws u p t q =
+    let st = stateOf ws in
+    let no = pairRefusal (st .users) (st .permissions) u p in
+    let yes = may (candidateCount (rolesOf st)) (roleRowsOf ws) u p in
+    rw q
+    (record {
+      condition1 = told-condition1 ws (unfit ws orElse no) (bit yes) (judged-record ws _ no (omega arith, tt) (λ _. judged-pair ws u p));
+      yes-or-no = λ z.
+          rw (told-value ws no (bit yes) z) (by-test yes (λ h. _⊎_.inr (_⊎_.inl (bit-true yes h))) (λ f. _⊎_.inl (bit-false yes f)));
+      condition2 = λ z. rw (told-value ws no (bit yes) z) (Iff·trans (bit-iff yes) (by-crew ws u p z));
+      by-roles = λ z.
+          rw (told-value ws no (bit yes) z) (Iff·trans (bit-iff yes) (may-authorised ws (unfit-iff ws .0 (told-zero ws no (bit yes) z .0)) u p));
+    })

@@ -1,0 +1,198 @@
+-- Conditions 1 and 2 of each outside call, over what it was lent and what it answered and left. Quotations are the customer's words.
+-- Assumes nothing.
+use mathlib.Core.Path.{_≡_}
+use mathlib.Core.Bool.{So}
+use mathlib.Core.Logic.{_↔_, _≢_, _⊎_}
+use mathlib.Core.List.{List, [], _∷_}
+use Prim.Native.Nat.{ℕ, _*_, _≤_, _<_}
+use lib.ListN.{length, getD}
+use Rattle.sets.specs.Sets.{has}
+use Rattle.model.specs.Lists.{rowsAt, OneOf}
+use Rattle.model.specs.Candidates.{Intersection, Listed, Growing}
+use Rattle.model.specs.Chains.{Authorised}
+use Rattle.model.specs.Quality.{Weights, Tolerance, quality}
+use Rattle.model.specs.State.{rolesOf}
+use Rattle.model.specs.Record.{recordLength, crewStart, setsStart, stateOf, roleRowsOf, crewRow, roleSet, Stands, sound}
+use Rattle.model.specs.Calls.{Mined, Edited, Told}
+
+-- ---- condition 1, of any call
+
+-- what sends a call back: a number, and what is then wrong with what was lent
+pub record Fault : Type 1 where
+  pub number : ℕ
+  pub there : Type 0
+
+abbrev pub fault : ℕ → Type 0 → Fault
+fault number there = record { number = number; there = there }
+
+abbrev pub numbersOf : List Fault → List ℕ
+numbersOf [] = []
+numbersOf (f ∷ faults) = f .number ∷ numbersOf faults
+
+-- A call's number is that of a fault exactly when that fault is there and none before it, and 0 exactly when none is. `None` says that there was
+-- none so far
+abbrev pub Exactly : Type 0 → List Fault → ℕ → Type 0
+Exactly None [] code = (code ≡ 0) ↔ None
+Exactly None (f ∷ faults) code = ((code ≡ f .number) ↔ (None × f .there)) × Exactly (None × ¬ f .there) faults code
+
+-- Of a call that can find these faults, and looks for them in this order; that answered `code`, with these numbers beside it; and that found the
+-- words `lent` in the buffer and left `left`
+pub record Condition1 (faults : List Fault) (code : ℕ) (beside lent left : List ℕ) : Type 0 where
+  -- "a full result or one of ten numbered refusals": of the ten, one that this call can give
+  pub number : OneOf code (0 ∷ numbersOf faults)
+  -- and each number exactly when
+  pub exactly : Exactly (Unit {0}) faults code
+  -- "A refusal returns its number and zeros"
+  pub zeros : code ≢ 0 → (i : ℕ) → getD beside i 0 ≡ 0
+  -- "and leaves each lent buffer unaltered": its length too
+  pub unaltered : code ≢ 0 → left ≡ lent
+
+-- ---- the paper's words, of the words of a record
+
+-- role k covers the grant (u, p): "u is in A(k) and p in S(k)", where the crew row of u contains S(k)
+pub record Covers (ws : List ℕ) (k u p : ℕ) : Type 0 where
+  pub user : u < getD ws 0 0
+  pub contains : (q : ℕ) → So (has (roleSet ws k) q) → So (has (crewRow ws u) q)
+  pub permission : So (has (roleSet ws k) p)
+
+-- "covered by another standing role"
+pub record CoveredByAnother (ws : List ℕ) (k u p : ℕ) : Type 0 where
+  pub role : ℕ
+  pub other : role ≢ k
+  pub stands : Stands ws role
+  pub covers : Covers ws role u p
+
+-- a grant that k covers and no other standing role does
+pub record Bare (ws : List ℕ) (k : ℕ) : Type 0 where
+  pub user : ℕ
+  pub permission : ℕ
+  pub covered : Covers ws k user permission
+  pub alone : ¬ CoveredByAnother ws k user permission
+
+-- more than `most` candidates: so many nonempty intersections of rows, each once
+pub record MoreThan (most : ℕ) (rows : List ℕ) : Type 0 where
+  pub sets : List ℕ
+  pub once : Growing sets
+  pub intersections : (x : ℕ) → Listed sets x → (x ≢ 0) × Intersection rows (length rows) x
+  pub more : most < length sets
+
+-- "weights w1..w4, each 0 to 1,000"
+abbrev pub WeightsInRange : Weights → Type 0
+WeightsInRange w = (w .perRole ≤ 1000) × (w .perMember ≤ 1000) × (w .perPermission ≤ 1000) × (w .perLink ≤ 1000)
+
+-- "a tolerance a/b with b from 1 to 1,000 and a from b to 2b"
+abbrev pub ToleranceInRange : Tolerance → Type 0
+ToleranceInRange t = (1 ≤ t .denominator) × (t .denominator ≤ 1000) × (t .denominator ≤ t .numerator) × (t .numerator ≤ 2 * t .denominator)
+
+-- ---- "Who sends a call back", call by call
+
+abbrev pub miningFaults : ℕ → ℕ → List ℕ → List ℕ → List Fault
+miningFaults n m crew ws =
+    -- "record length is not 2,056 words"
+    fault 1 (length ws ≢ recordLength)
+    -- "n or m outside its limits"
+    ∷ fault 2 (¬ ((1 ≤ n) × (n ≤ 128) × (1 ≤ m) × (m ≤ 256)))
+    -- "crew words not 4n .. or a bit at m or above"
+    ∷ fault 3 (¬ ((length crew ≡ 4 * n) × ((u p : ℕ) → u < n → So (has (getD (rowsAt n crew 0) u 0) p) → p < m)))
+    -- "more than 128 candidates"
+    ∷ fault 4 (MoreThan 128 (rowsAt n crew 0))
+    ∷ []
+
+abbrev pub strikeFaults : List ℕ → ℕ → List Fault
+strikeFaults ws k =
+    fault 1 (length ws ≢ recordLength)
+    -- "the record is not sound"
+    ∷ fault 5 (¬ So (sound ws))
+    -- "k not below .. c"
+    ∷ fault 6 (¬ (k < getD ws 2 0))
+    -- "strike of an absent role"
+    ∷ fault 7 (¬ Stands ws k)
+    -- "the role can't be struck"
+    ∷ fault 8 (Bare ws k)
+    ∷ []
+
+abbrev pub restoreFaults : List ℕ → ℕ → List Fault
+restoreFaults ws k =
+    fault 1 (length ws ≢ recordLength)
+    ∷ fault 5 (¬ So (sound ws))
+    ∷ fault 6 (¬ (k < getD ws 2 0))
+    -- "restoring one that stands"
+    ∷ fault 7 (Stands ws k)
+    ∷ []
+
+abbrev pub eliminateFaults : List ℕ → Weights → Tolerance → List Fault
+eliminateFaults ws w t =
+    fault 1 (length ws ≢ recordLength)
+    ∷ fault 5 (¬ So (sound ws))
+    -- "a weight or tolerance outside its range"
+    ∷ fault 9 (¬ (WeightsInRange w × ToleranceInRange t))
+    ∷ []
+
+-- review, and quality
+abbrev pub weightsFaults : List ℕ → Weights → List Fault
+weightsFaults ws w = fault 1 (length ws ≢ recordLength) ∷ fault 5 (¬ So (sound ws)) ∷ fault 9 (¬ WeightsInRange w) ∷ []
+
+abbrev pub mayFaults : List ℕ → ℕ → ℕ → List Fault
+mayFaults ws u p =
+    fault 1 (length ws ≢ recordLength)
+    ∷ fault 5 (¬ So (sound ws))
+    -- "u, p .. not below n, m"
+    ∷ fault 6 (¬ ((u < getD ws 0 0) × (p < getD ws 1 0)))
+    ∷ []
+
+-- ---- both conditions, call by call
+
+-- what an accepted mining of n crew rows, with m permissions, leaves in the record, where it answers c
+pub record MinedFrom (n m : ℕ) (crew : List ℕ) (c : ℕ) (ws : List ℕ) : Type 0 where
+  -- words 0, 1 and 2, and the crew rows
+  pub users : getD ws 0 0 ≡ n
+  pub permissions : getD ws 1 0 ≡ m
+  pub count : getD ws 2 0 ≡ c
+  pub rows : rowsAt n ws crewStart ≡ rowsAt n crew 0
+  -- "a set is mined exactly when it is a nonempty intersection of persons' permission sets"
+  pub mined : (x : ℕ) → Listed (rowsAt c ws setsStart) x ↔ ((x ≢ 0) × Intersection (rowsAt n crew 0) n x)
+  -- "each distinct set once, numbered by growing value"
+  pub growing : Growing (rowsAt c ws setsStart)
+  -- "with all candidates standing"
+  pub standing : (k : ℕ) → Stands ws k ↔ (k < c)
+  -- the rows are "the building of its standing set", and all else of "A record is sound when"
+  pub is-sound : So (sound ws)
+
+pub record MiningConditions (n m : ℕ) (crew ws : List ℕ) (r : Mined) : Type 0 where
+  pub condition1 : Condition1 (miningFaults n m crew ws) (r .code) (r .candidates ∷ []) ws (r .words)
+  pub condition2 : r .code ≡ 0 → MinedFrom n m crew (r .candidates) (r .words)
+
+-- condition 1 of an editing call
+abbrev pub EditCondition1 : List Fault → List ℕ → Edited → Type 0
+EditCondition1 faults ws e = Condition1 faults (e .replied .code) (e .replied .changed ∷ e .replied .examined ∷ []) ws (e .words)
+
+pub record StrikeConditions (ws : List ℕ) (k : ℕ) (e : Edited) : Type 0 where
+  pub condition1 : EditCondition1 (strikeFaults ws k) ws e
+  -- "a role can be struck exactly when every grant it covers is covered by another standing role"
+  pub condition2 : So (sound ws) → Stands ws k → (e .replied .code ≡ 0) ↔ ((u p : ℕ) → Covers ws k u p → CoveredByAnother ws k u p)
+  -- "R loses k"
+  pub loses : e .replied .code ≡ 0 → (j : ℕ) → Stands (e .words) j ↔ (Stands ws j × (j ≢ k))
+
+pub record RestoreConditions (ws : List ℕ) (k : ℕ) (e : Edited) : Type 0 where
+  pub condition1 : EditCondition1 (restoreFaults ws k) ws e
+  -- "R gains k"
+  pub gains : e .replied .code ≡ 0 → (j : ℕ) → Stands (e .words) j ↔ (Stands ws j ⊎ (j ≡ k))
+
+pub record EliminateConditions (ws : List ℕ) (w : Weights) (t : Tolerance) (e : Edited) : Type 0 where
+  pub condition1 : EditCondition1 (eliminateFaults ws w t) ws e
+
+pub record ReviewConditions (ws : List ℕ) (w : Weights) (e : Edited) : Type 0 where
+  pub condition1 : EditCondition1 (weightsFaults ws w) ws e
+
+pub record QualityConditions (ws : List ℕ) (w : Weights) (t : Told) : Type 0 where
+  pub condition1 : Condition1 (weightsFaults ws w) (t .code) (t .value ∷ []) ws ws
+  -- "w1·(roles) + w2·(direct members) + w3·(direct permissions) + w4·(links), counted over the building" of the standing roles
+  pub condition2 : t .code ≡ 0 → t .value ≡ quality (rolesOf (stateOf ws)) w (stateOf ws .standing)
+
+pub record MayConditions (ws : List ℕ) (u p : ℕ) (t : Told) : Type 0 where
+  pub condition1 : Condition1 (mayFaults ws u p) (t .code) (t .value ∷ []) ws ws
+  pub yes-or-no : t .code ≡ 0 → OneOf (t .value) (0 ∷ 1 ∷ [])
+  -- "a person is authorised for an action exactly when the crew list says so"
+  pub condition2 : t .code ≡ 0 → (t .value ≡ 1) ↔ So (has (crewRow ws u) p)
+  -- "does some role have u as direct member and, by zero or more links downward, reach a role with p direct?"
+  pub by-roles : t .code ≡ 0 → (t .value ≡ 1) ↔ Authorised (roleRowsOf ws) u p
