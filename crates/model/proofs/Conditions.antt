@@ -1,7 +1,7 @@
 -- Conditions 1 and 2 hold of what each call's definition gives.
 -- Assumes nothing.
 use mathlib.Core.Path.{_≡_, refl, sym, _∙_, ap, subst}
-use mathlib.Core.Bool.{Bool, true, So}
+use mathlib.Core.Bool.{Bool, true, false, So}
 use mathlib.Core.Logic.{_↔_, _≢_, _⊎_, ⊎-elim, Iff·trans}
 use mathlib.Core.List.{List, [], _∷_}
 use Prim.Native.Nat.{ℕ, zero, suc, _*_, _≤_, _<_}
@@ -10,7 +10,7 @@ use lib.ListN.{length, getD}
 use lib.Seq.{ext-getD}
 use Rattle.sets.specs.Truth.{bit}
 use Rattle.sets.specs.Sets.{has, _∪_, _∖_, single}
-use Rattle.sets.proofs.Truth.{either, by-test, So-not, not-So, bit-true, bit-false, reflect}
+use Rattle.sets.proofs.Truth.{either, by-test, So-not, not-So, bit-true, bit-false}
 use Rattle.sets.proofs.Items.{item-below, below-of-items}
 use Rattle.sets.proofs.Order.{∪-iff, ∖-iff, single-iff, collect-iff}
 use Rattle.model.specs.Lists.{setAt, rowsAt, OneOf}
@@ -18,7 +18,7 @@ use Rattle.model.specs.Candidates.{Intersection, Listed, candidates}
 use Rattle.model.specs.Hierarchy.{RoleRows, candidateCount, permissionSet}
 use Rattle.model.specs.Chains.{may}
 use Rattle.model.specs.Coverage.{strikable}
-use Rattle.model.specs.Quality.{Weights, Tolerance, weightsAllowed, toleranceAllowed, counted, counts, weigh, quality}
+use Rattle.model.specs.Quality.{Weights, Tolerance, counted, counts, weigh, quality}
 use Rattle.model.specs.State.{State, rolesOf, standingNow, fresh, rowsWithin}
 use Rattle.model.specs.Record.{recordLength, crewStart, setsStart, built, stateOf, roleRowsOf, crewRow, Stands, sound}
 use Rattle.model.specs.Refusals.{_orElse_, soundnessRefusal, roleRefusal, absentRefusal, standingRefusal, strikeRefusal, pairRefusal, weightsRefusal, lengthRefusal, candidatesRefusal}
@@ -30,32 +30,15 @@ use Rattle.model.proofs.Growing.{among-length}
 use Rattle.model.proofs.Candidates.{candidate-iff, candidates-growing}
 use Rattle.model.proofs.Lists.{length-rowsAt, getD-rowsAt}
 use Rattle.model.proofs.Record.{withinLimits-iff, rowsWithin-iff, read-users, read-permissions, read-count, read-standing, state-back}
+use Rattle.model.proofs.Bounds.{weightsAllowed-iff, tolerance-iff}
 use Rattle.model.proofs.Refusals.{Check, orElse-assoc, orElse-iff, unfit-iff, length-check, limits-check, crew-check, candidates-check, soundness-check, role-check, pair-check, absent-check, standing-check, strike-check, weights-check, eliminate-check, strike-iff}
 use Rattle.model.proofs.Steps.{Fit, mining-fit, step-accepted}
+use Rattle.model.proofs.Elimination.{eliminated-closed, eliminated-examined}
+use Rattle.model.proofs.Review.{reviewed-closed}
 use Rattle.model.proofs.Calls.{mine-code, mine-accepted, mine-refused, edit-code, edit-refused, told-accepted, told-refused, told-code}
-use Rattle.model.proofs.Claim.{fit-sound, code-is, edit-state, set-read}
+use Rattle.model.proofs.Claim.{sound-fit, fit-sound, code-is, edit-fit, edit-replied, edit-state, set-read}
 use Rattle.model.proofs.Sound.{sound-count, sound-rows, may-authorised, may-granted, sound-stands, strikable-read, bare-read}
 use Rattle.model.proofs.Faults.{Finds, finds-not, finds-as, Above, above-lower, Judged, judged-next, judged-last}
-
--- ---- the numbers in range
-
-weights-iff : (w : Weights) → So (weightsAllowed w) ↔ WeightsInRange w
-unfolding weightsAllowed
-weights-iff w = (
-  λ h.
-      let x : (((w .perRole ≤ 1000) × (w .perMember ≤ 1000)) × (w .perPermission ≤ 1000)) × (w .perLink ≤ 1000) = simp reflect at h in
-      (x .0 .0 .0, x .0 .0 .1, x .0 .1, x .1),
-  λ f. simp reflect (((f .0, f .1), f .2), f .3),
-)
-
-tolerance-iff : (t : Tolerance) → So (toleranceAllowed t) ↔ ToleranceInRange t
-unfolding toleranceAllowed
-tolerance-iff t = (
-  λ h.
-      let x : (((1 ≤ t .denominator) × (t .denominator ≤ 1000)) × (t .denominator ≤ t .numerator)) × (t .numerator ≤ 2 * t .denominator) = simp reflect at h in
-      (x .0 .0 .0, x .0 .0 .1, x .0 .1, x .1),
-  λ f. simp reflect (((f .0, f .1), f .2), f .3),
-)
 
 -- a check that asks P finds that Q does not hold, where P is Q
 finds-other : {a n : ℕ} {P : Type 0} (Q : Type 0) → Check a n P → P ↔ Q → Finds a (fault n (¬ Q))
@@ -103,12 +86,12 @@ module _ (ws : List ℕ) (h : So (sound ws)) (k : ℕ) where
       (λ _. judged-last (finds-as (Stands ws k) (finds-not (standing-check R k)) (λ d. holds (has R k) (λ n. d (not-So (has R k) n)), λ s f. So-not f s)))
 
 judged-weights : (w : Weights) → Judged (fault 9 (¬ WeightsInRange w) ∷ []) (weightsRefusal w)
-judged-weights w = judged-last (finds-other (WeightsInRange w) (weights-check w) (weights-iff w))
+judged-weights w = judged-last (finds-other (WeightsInRange w) (weights-check w) (weightsAllowed-iff w))
 
 judged-eliminate : (st : State) (w : Weights) (t : Tolerance)
     → Judged (fault 9 (¬ (WeightsInRange w × ToleranceInRange t)) ∷ []) (refusal st (eliminate w t))
 judged-eliminate st w t =
-    let a = weights-iff w in
+    let a = weightsAllowed-iff w in
     let b = tolerance-iff t in
     judged-last
     (finds-other (WeightsInRange w × ToleranceInRange t) (eliminate-check st w t) (λ x. (a .0 (x .0), b .0 (x .1)), λ x. (a .1 (x .0), b .1 (x .1))))
@@ -256,11 +239,16 @@ module _ (ws : List ℕ) (call : Call) (z : edit ws call .replied .code ≡ 0) w
   both-zero : (unfit ws ≡ 0) × (refusal (stateOf ws) call ≡ 0)
   both-zero = orElse-iff (unfit ws) (refusal (stateOf ws) call) .0 (sym (edit-code ws call) ∙ z)
 
-  standing-after : setAt 2 (edit ws call .words) 4 ≡ accepted (stateOf ws) call .standing
+  lent-sound : So (sound ws)
+  lent-sound = unfit-iff ws .0 (both-zero .0)
+
+  state-left : stateOf (edit ws call .words) ≡ standingNow (stateOf ws) (accepted (stateOf ws) call .standing)
+  state-left =
+      edit-state ws lent-sound call ∙ ap (λ (o : Outcome). o .state) (step-accepted (stateOf ws) call (both-zero .1))
+
+  standing-left : setAt 2 (edit ws call .words) 4 ≡ accepted (stateOf ws) call .standing
   unfolding stateOf standingNow
-  standing-after =
-      ap (λ (s : State). s .standing)
-      (edit-state ws (unfit-iff ws .0 (both-zero .0)) call ∙ ap (λ (o : Outcome). o .state) (step-accepted (stateOf ws) call (both-zero .1)))
+  standing-left = ap (λ (s : State). s .standing) state-left
 
 pub strike-conditions : (ws : List ℕ) (k : ℕ) (e : Edited) → e ≡ edit ws (strike k) → StrikeConditions ws k e
 unfolding accepted stateOf
@@ -275,7 +263,7 @@ strike-conditions ws k e q =
           let t = strikable-read ws h k s in
           rw (code-is ws h (strike k)) (λ z. t .0 (i .0 z .2), λ x. i .1 (sound-stands ws h k s, s, t .1 x));
       loses = λ z j.
-          rw (standing-after ws (strike k) z) (
+          rw (standing-left ws (strike k) z) (
             λ x. let a = ∖-iff (setAt 2 ws 4) (single k) j .0 x in (a .0, λ y. a .1 (single-iff k j .1 (sym y))),
             λ x. ∖-iff (setAt 2 ws 4) (single k) j .1 (x .0, λ y. x .1 (sym (single-iff k j .0 y))),
           );
@@ -290,21 +278,54 @@ restore-conditions ws k e q =
           edit-condition1 ws (restore k)
           (judged-record ws _ (refusal (stateOf ws) (restore k)) (omega arith, (omega arith, tt)) (λ h. judged-restore ws h k));
       gains = λ z j.
-          rw (standing-after ws (restore k) z) (
+          rw (standing-left ws (restore k) z) (
             λ x. ⊎-elim (λ y. _⊎_.inl y) (λ y. _⊎_.inr (sym (single-iff k j .0 y))) (∪-iff (setAt 2 ws 4) (single k) j .0 x),
             λ x. ∪-iff (setAt 2 ws 4) (single k) j .1 (⊎-elim (λ y. _⊎_.inl y) (λ y. _⊎_.inr (single-iff k j .1 (sym y))) x),
           );
     })
 
+-- the closing properties, of the state that is left
+not-worth : (ws : List ℕ) (w : Weights) (t : Tolerance) (st : State) → So (sound ws)
+    → st ≡ standingNow (stateOf ws) (accepted (stateOf ws) (eliminate w t) .standing)
+    → (k : ℕ) → k < candidateCount (rolesOf st) → So (strikable (rolesOf st) (st .standing) k)
+    → t .numerator * quality (rolesOf st) w (st .standing) ≤ t .denominator * quality (rolesOf st) w (st .standing ∖ single k)
+unfolding accepted standingNow rolesOf
+not-worth ws w t st h e = rw e (eliminated-closed (rolesOf (stateOf ws)) w t (stateOf ws .standing) (sound-fit ws h .limits .standing-below))
+
+no-lower : (ws : List ℕ) (w : Weights) (st : State) → So (sound ws) → st ≡ standingNow (stateOf ws) (accepted (stateOf ws) (review w) .standing)
+    → (k : ℕ) → k < candidateCount (rolesOf (stateOf ws)) → has (st .standing) k ≡ false
+    → quality (rolesOf st) w (st .standing) ≤ quality (rolesOf st) w (st .standing ∪ single k)
+unfolding accepted standingNow rolesOf
+no-lower ws w st h e = rw e (reviewed-closed (rolesOf (stateOf ws)) w (stateOf ws .standing) (sound-fit ws h .limits .standing-below))
+
 pub eliminate-conditions : (ws : List ℕ) (w : Weights) (t : Tolerance) (e : Edited) → e ≡ edit ws (eliminate w t) → EliminateConditions ws w t e
+unfolding accepted reply stateOf
 eliminate-conditions ws w t e q =
+    let call = eliminate w t in
+    let left = edit ws call .words in
     rw q
-    (record { condition1 = edit-condition1 ws (eliminate w t) (judged-record ws _ (refusal (stateOf ws) (eliminate w t)) (omega arith, tt) (λ _. judged-eliminate (stateOf ws) w t)) })
+    (record {
+      condition1 = edit-condition1 ws call (judged-record ws _ (refusal (stateOf ws) call) (omega arith, tt) (λ _. judged-eliminate (stateOf ws) w t));
+      taken-up = λ z.
+          let h = lent-sound ws call z in
+          rw (edit-replied ws h call, step-accepted (stateOf ws) call (both-zero ws call z .1), sound-count ws h)
+          (eliminated-examined (rolesOf (stateOf ws)) w t (stateOf ws .standing) (sound-fit ws h .limits .standing-below));
+      ended = λ z k s x.
+          let h = edit-fit ws (lent-sound ws call z) call in
+          not-worth ws w t (stateOf left) (lent-sound ws call z) (state-left ws call z) k (sound-stands left h k s) (strikable-read left h k s .1 x);
+    })
 
 pub review-conditions : (ws : List ℕ) (w : Weights) (e : Edited) → e ≡ edit ws (review w) → ReviewConditions ws w e
-unfolding refusal
+unfolding refusal accepted stateOf
 review-conditions ws w e q =
-    rw q (record { condition1 = edit-condition1 ws (review w) (judged-record ws _ (weightsRefusal w) (omega arith, tt) (λ _. judged-weights w)) })
+    rw q
+    (record {
+      condition1 = edit-condition1 ws (review w) (judged-record ws _ (weightsRefusal w) (omega arith, tt) (λ _. judged-weights w));
+      ended = λ z k l n.
+          let h = lent-sound ws (review w) z in
+          let left = edit ws (review w) .words in
+          no-lower ws w (stateOf left) h (state-left ws (review w) z) k (subst (λ (c : ℕ). k < c) (sound-count ws h) l) (not-So (has (setAt 2 left 4) k) n);
+    })
 
 -- ---- the reading calls
 
@@ -317,7 +338,7 @@ module _ (ws : List ℕ) (rest value : ℕ) (z : told (unfit ws orElse rest) val
   told-value = ap (λ (t : Told). t .value) (told-accepted (unfit ws orElse rest) value (orElse-iff (unfit ws) rest .1 told-zero))
 
 pub quality-conditions : (ws : List ℕ) (w : Weights) (t : Told) → t ≡ qualityOf ws w → QualityConditions ws w t
-unfolding qualityOf quality counts
+unfolding qualityOf quality counts stateOf
 quality-conditions ws w t q =
     let st = stateOf ws in
     let v = weigh w (counted (candidateCount (rolesOf st)) (roleRowsOf ws) (st .standing)) in

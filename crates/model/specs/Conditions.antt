@@ -4,10 +4,10 @@ use mathlib.Core.Path.{_≡_}
 use mathlib.Core.Bool.{So}
 use mathlib.Core.Logic.{_↔_, _≢_, _⊎_}
 use mathlib.Core.List.{List, [], _∷_}
-use Prim.Native.Nat.{ℕ, _*_, _≤_, _<_}
+use Prim.Native.Nat.{ℕ, _+_, _*_, _≤_, _<_}
 use lib.ListN.{length, getD}
-use Rattle.sets.specs.Sets.{has}
-use Rattle.model.specs.Lists.{rowsAt, OneOf}
+use Rattle.sets.specs.Sets.{has, _∪_, _∖_, single}
+use Rattle.model.specs.Lists.{setAt, rowsAt, OneOf}
 use Rattle.model.specs.Candidates.{Intersection, Listed, Growing}
 use Rattle.model.specs.Chains.{Authorised}
 use Rattle.model.specs.Quality.{Weights, Tolerance, quality}
@@ -83,6 +83,10 @@ WeightsInRange w = (w .perRole ≤ 1000) × (w .perMember ≤ 1000) × (w .perPe
 -- "a tolerance a/b with b from 1 to 1,000 and a from b to 2b"
 abbrev pub ToleranceInRange : Tolerance → Type 0
 ToleranceInRange t = (1 ≤ t .denominator) × (t .denominator ≤ 1000) × (t .denominator ≤ t .numerator) × (t .numerator ≤ 2 * t .denominator)
+
+-- the quality of the building of the roles R, where the record's crew list holds
+abbrev pub qualityOver : List ℕ → Weights → ℕ → ℕ
+qualityOver ws w R = quality (rolesOf (stateOf ws)) w R
 
 -- ---- "Who sends a call back", call by call
 
@@ -180,14 +184,22 @@ pub record RestoreConditions (ws : List ℕ) (k : ℕ) (e : Edited) : Type 0 whe
 
 pub record EliminateConditions (ws : List ℕ) (w : Weights) (t : Tolerance) (e : Edited) : Type 0 where
   pub condition1 : EditCondition1 (eliminateFaults ws w t) ws e
+  -- "at most c(c + 1)/2"
+  pub taken-up : e .replied .code ≡ 0 → 2 * e .replied .examined ≤ getD ws 2 0 * (getD ws 2 0 + 1)
+  -- "When elimination ends, each standing role is not strikable or has b·q' ≥ a·q"
+  pub ended : e .replied .code ≡ 0 → (k : ℕ) → Stands (e .words) k → ((u p : ℕ) → Covers (e .words) k u p → CoveredByAnother (e .words) k u p)
+      → t .numerator * qualityOver (e .words) w (setAt 2 (e .words) 4) ≤ t .denominator * qualityOver (e .words) w (setAt 2 (e .words) 4 ∖ single k)
 
 pub record ReviewConditions (ws : List ℕ) (w : Weights) (e : Edited) : Type 0 where
   pub condition1 : EditCondition1 (weightsFaults ws w) ws e
+  -- "When a review ends, no single absent candidate would lower q."
+  pub ended : e .replied .code ≡ 0 → (k : ℕ) → k < getD ws 2 0 → ¬ Stands (e .words) k
+      → qualityOver (e .words) w (setAt 2 (e .words) 4) ≤ qualityOver (e .words) w (setAt 2 (e .words) 4 ∪ single k)
 
 pub record QualityConditions (ws : List ℕ) (w : Weights) (t : Told) : Type 0 where
   pub condition1 : Condition1 (weightsFaults ws w) (t .code) (t .value ∷ []) ws ws
   -- "w1·(roles) + w2·(direct members) + w3·(direct permissions) + w4·(links), counted over the building" of the standing roles
-  pub condition2 : t .code ≡ 0 → t .value ≡ quality (rolesOf (stateOf ws)) w (stateOf ws .standing)
+  pub condition2 : t .code ≡ 0 → t .value ≡ qualityOver ws w (setAt 2 ws 4)
 
 pub record MayConditions (ws : List ℕ) (u p : ℕ) (t : Told) : Type 0 where
   pub condition1 : Condition1 (mayFaults ws u p) (t .code) (t .value ∷ []) ws ws
