@@ -7,11 +7,10 @@ use mathlib.Core.Logic.{_↔_, _≢_, _⊎_, ⊎-elim}
 use Prim.Native.Nat.{ℕ, zero, suc, _+_, _-_, _<_}
 use native.Mathlib.Nat.{lt-irrefl}
 use native.Mathlib.Omega.{arith}
-use lib.Dec.{eqb}
 use lib.ListN.{getD}
-use Rattle.sets.specs.Truth.{_and_, isnt}
+use Rattle.sets.specs.Truth.{_and_}
 use Rattle.sets.specs.Sets.{has}
-use Rattle.sets.proofs.Truth.{and-iff, isnt-iff, eqb-iff, find}
+use Rattle.sets.proofs.Truth.{and-iff, find}
 use Rattle.sets.proofs.Items.{item-below, empty-of}
 use Rattle.sets.proofs.Order.{subset-iff, subset-trans, proper-subset, proper-trans}
 use Rattle.model.specs.Hierarchy.{Roles, candidateCount, permissionSet, authorisedUsers, senior, immediatelySenior, immediateJuniors, directPermissions, directMembers, building}
@@ -20,7 +19,7 @@ use Rattle.model.specs.Chains.Chain.{one, more}
 use Rattle.model.specs.Coverage.{grant, covered, allCovered}
 use Rattle.model.proofs.Direct.{direct-absent, Side, last-direct}
 use Rattle.model.proofs.Reading.{Ordered, user-iff, covers-iff, covered-iff, allCovered-iff, senior-iff, immediate-iff, junior-iff, permission-iff, member-iff}
-use Rattle.model.proofs.Chains.{RoleRowsBelow, chain-append, may-iff}
+use Rattle.model.proofs.Chains.{RoleRowsBelow, linksBut-iff, chain-append, may-iff}
 
 -- "Roles outside R have zero rows"
 module _ (ρ : Roles) (R k : ℕ) (absent : So (has R k) → ⊥) where
@@ -114,21 +113,15 @@ module _ (ρ : Roles) (R : ℕ) (o : Ordered ρ R) where
   pub no-return : (k : ℕ) → Chain (link (building ρ R)) k k → ⊥
   no-return k d = lt-irrefl k (senior-lower k k (chain-senior (link (building ρ R)) (λ _ _ h. h) d))
 
-  other-link : (x y k j : ℕ) → So (linksBut (link (building ρ R)) x y k j) → So (link (building ρ R) k j) × ((k ≡ x) × (j ≡ y) → ⊥)
-  unfolding linksBut
-  other-link x y k j h =
-      let a = and-iff (link (building ρ R) k j) (isnt (eqb k x and eqb j y)) .0 h in
-      (a .0, λ e. isnt-iff (eqb k x and eqb j y) .0 (a .1) (and-iff (eqb k x) (eqb j y) .1 (eqb-iff k x .1 (e .0), eqb-iff j y .1 (e .1))))
-
   -- "no link could be replaced by a chain"
   pub no-replacement : (x y : ℕ) → So (link (building ρ R) x y) → Chain (linksBut (link (building ρ R)) x y) x y → ⊥
   no-replacement x y l d = go x y refl refl d
     where
       sub : (k j : ℕ) → So (linksBut (link (building ρ R)) x y k j) → So (link (building ρ R) k j)
-      sub k j h = other-link x y k j h .0
+      sub k j h = linksBut-iff (link (building ρ R)) x y k j .0 h .0
 
       go : (k j : ℕ) → k ≡ x → j ≡ y → Chain (linksBut (link (building ρ R)) x y) k j → ⊥
-      go k j ek ej (one h) = other-link x y k j h .1 (ek, ej)
+      go k j ek ej (one h) = linksBut-iff (link (building ρ R)) x y k j .0 h .1 (ek, ej)
       go k j ek ej (more {i = i} h d) =
           let a : So (senior ρ R x i) = rw ek at (link-senior k i (sub k i h)) in
           let b : So (senior ρ R i y) = rw ej at (chain-senior (linksBut (link (building ρ R)) x y) sub d) in

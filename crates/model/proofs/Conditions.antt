@@ -29,7 +29,7 @@ use Rattle.model.specs.Conditions.{Fault, fault, numbersOf, Exactly, Con
 use Rattle.model.proofs.Growing.{among-length}
 use Rattle.model.proofs.Candidates.{candidate-iff, candidates-growing}
 use Rattle.model.proofs.Lists.{length-rowsAt, getD-rowsAt}
-use Rattle.model.proofs.Record.{withinLimits-iff, rowsWithin-iff, read-users, read-permissions, read-count, read-standing, state-back}
+use Rattle.model.proofs.Record.{withinLimits-iff, rowsWithin-iff, read-users, read-permissions, read-count, read-zeros, read-standing, state-back}
 use Rattle.model.proofs.Bounds.{weightsAllowed-iff, tolerance-iff}
 use Rattle.model.proofs.Refusals.{Check, orElse-assoc, orElse-iff, unfit-iff, length-check, limits-check, crew-check, candidates-check, soundness-check, role-check, pair-check, absent-check, standing-check, strike-check, weights-check, eliminate-check, strike-iff}
 use Rattle.model.proofs.Steps.{Fit, mining-fit, step-accepted}
@@ -215,6 +215,7 @@ module _ (n m : ℕ) (crew ws : List ℕ) (ok : miningRefusal n m crew ws ≡ 0)
         permissions = read-permissions st (f .limits);
         count = read-count st (f .limits);
         rows = rw (read-users st (f .limits)) at (ap (λ (s : State). s .rows) (state-back st (f .limits)));
+        zeros = read-zeros st (f .limits);
         mined = λ x. rw sets-read (subst (λ (l : ℕ). Listed (candidates rows) x ↔ ((x ≢ 0) × Intersection rows l x)) (length-rowsAt n crew 0) (candidate-iff rows x));
         growing = rw sets-read (candidates-growing rows);
         standing = λ k.

@@ -153,6 +153,8 @@ pub record MinedFrom (n m : ℕ) (crew : List ℕ) (c : ℕ) (ws : List ℕ) : T
   pub permissions : getD ws 1 0 ≡ m
   pub count : getD ws 2 0 ≡ c
   pub rows : rowsAt n ws crewStart ≡ rowsAt n crew 0
+  -- "3, 6 and 7: zero"
+  pub zeros : (getD ws 3 0 ≡ 0) × (getD ws 6 0 ≡ 0) × (getD ws 7 0 ≡ 0)
   -- "a set is mined exactly when it is a nonempty intersection of persons' permission sets"
   pub mined : (x : ℕ) → Listed (rowsAt c ws setsStart) x ↔ ((x ≢ 0) × Intersection (rowsAt n crew 0) n x)
   -- "each distinct set once, numbered by growing value"
