@@ -2,39 +2,34 @@
 -- Assumes nothing.
 use mathlib.Core.Path.{_≡_, refl, sym, _∙_, ap, ap₂, subst}
 use mathlib.Core.Bool.{So}
-use mathlib.Core.Logic.{_↔_, _≢_, Iff·trans}
+use mathlib.Core.Logic.{_↔_, _≢_}
 use mathlib.Core.List.{List, [], _∷_, map}
-use Prim.Native.Nat.{ℕ, _<_, _^_}
-use native.Mathlib.Nat.{lt-of-lt-of-le}
+use Prim.Native.Nat.{ℕ, _<_}
 use lib.Dec.{eqb}
 use lib.ListN.{length, getD}
-use lib.Pow.{pow-mono}
 use Rattle.sets.specs.Truth.{if_then_else_}
-use Rattle.sets.specs.Sets.{has, _∪_, _∖_, single, subset}
+use Rattle.sets.specs.Sets.{has, _∪_, _∖_, single}
 use Rattle.sets.proofs.Truth.{by-test, So-not, eqb-iff, if-true, if-false}
-use Rattle.sets.proofs.Items.{item-below}
-use Rattle.sets.proofs.Order.{with-without, subset-iff}
+use Rattle.sets.proofs.Order.{with-without}
 use Rattle.model.specs.Lists.{rowsAt}
-use Rattle.model.specs.Candidates.{candidates}
-use Rattle.model.specs.Hierarchy.{candidateCount, permissionSet, authorisedUsers, building}
-use Rattle.model.specs.Chains.{link, Chain, linksBut, may, Authorised, Member, Holds}
+use Rattle.model.specs.Hierarchy.{candidateCount, building}
+use Rattle.model.specs.Chains.{link, Chain, linksBut, may, Authorised}
 use Rattle.model.specs.Coverage.{grant}
 use Rattle.model.specs.State.{State, rolesOf, standingNow, fresh}
-use Rattle.model.specs.Record.{built, stateOf, roleRowsOf, crewRow, roleSet, Stands, sound}
+use Rattle.model.specs.Record.{built, stateOf, roleRowsOf, sound}
 use Rattle.model.specs.Altered.{Altered}
 use Rattle.model.specs.Machine.{Call, Reply, Outcome, refusal, accepted, step, stateAfter, repliesTo}
 use Rattle.model.specs.Machine.Call.{strike, restore, eliminate, review}
 use Rattle.model.specs.Quality.{Weights, Tolerance}
 use Rattle.model.specs.Calls.{Edited, edit, miningRefusal, mine}
-use Rattle.model.specs.Claim.{wordsAfter, repliesGiven, StrikeAltered, RestoreAltered, OneByOne, Standard, Condition3}
+use Rattle.model.specs.Claim.{wordsAfter, repliesGiven, StrikeAltered, RestoreAltered, OneByOne, Condition3}
 use Rattle.model.proofs.Chains.{may-iff}
-use Rattle.model.proofs.Reading.{Ordered, user-iff}
-use Rattle.model.proofs.Growing.{listed-at}
-use Rattle.model.proofs.Candidates.{candidate-bound}
-use Rattle.model.proofs.Building.{stands-below, members-iff, holds-iff, building-below, granted-may, may-possible, no-return, no-replacement}
-use Rattle.model.proofs.Record.{sound-iff, sound-built, read-users, read-standing, read-row, read-set, state-back, rows-back, built-sound}
+use Rattle.model.proofs.Reading.{Ordered}
+use Rattle.model.proofs.Building.{building-below, granted-may, may-possible, no-return, no-replacement}
+use Rattle.model.proofs.Record.{sound-iff, sound-built, state-back, rows-back, built-sound}
 use Rattle.model.proofs.Refusals.{unfit-iff, restore-iff, refusal-number}
 use Rattle.model.proofs.Calls.{mine-code, mine-accepted, edit-fits}
+use Rattle.model.proofs.Notions.{built-rows, standard-held}
 use Rattle.model.proofs.Altered.{strike-altered, restore-altered}
 use Rattle.model.proofs.Steps.{limits-ordered, roles-now, standing-now, now-now, now-same, step-accepted, step-refused, step-code, Fit, step-fit, after-fit, after-rows, AllAccepted, Made, elimination-made, review-made, mining-fit}
 
@@ -127,54 +122,6 @@ module _ (st : State) (f : Fit st) where
 
   pub words-no-replacement : (x y : ℕ) → So (link (roleRowsOf (built st)) x y) → Chain (linksBut (link (roleRowsOf (built st))) x y) x y → ⊥
   words-no-replacement x y = rw rows-are (no-replacement (rolesOf st) (st .standing) o x y)
-
-  -- ---- the standard
-
-  pub set-below : (k : ℕ) → k < candidateCount (rolesOf st) → permissionSet (rolesOf st) k < 2 ^ st .permissions
-  unfolding rolesOf candidateCount permissionSet
-  set-below k l =
-      candidate-bound (st .rows) (2 ^ st .permissions) (λ u b. f .limits .rows-below u (rw (f .limits .rows-count) at b))
-      (getD (candidates (st .rows)) k 0) (listed-at (candidates (st .rows)) k l)
-
-  pub set-read : (k : ℕ) → k < candidateCount (rolesOf st) → roleSet (built st) k ≡ permissionSet (rolesOf st) k
-  set-read k l =
-      read-set st (f .limits) k (lt-of-lt-of-le l (f .limits .candidates-most)) (lt-of-lt-of-le (set-below k l) (pow-mono (f .limits .permissions-most)))
-
-  pub row-read : (u : ℕ) → u < st .users → crewRow (built st) u ≡ getD (st .rows) u 0
-  row-read u l = read-row st (f .limits) u (lt-of-lt-of-le l (f .limits .users-most))
-
-  -- a standing role, and S(k) and A(k), as the words hold them
-  stood : (k : ℕ) → Stands (built st) k → So (has (st .standing) k)
-  stood k h = rw (read-standing st (f .limits)) at h
-
-  users-read : (k u : ℕ) → k < candidateCount (rolesOf st)
-      → So (has (authorisedUsers (rolesOf st) k) u) ↔ ((u < getD (built st) 0 0) × So (subset (roleSet (built st) k) (crewRow (built st) u)))
-  unfolding rolesOf
-  users-read k u l =
-      let a = user-iff (rolesOf st) k u in
-      let e = read-users st (f .limits) in (
-        λ h. let b = a .0 h in rw (e, set-read k l) (b .0, rw (row-read u (b .0)) (b .1)),
-        λ h. let b : u < st .users = rw e at (h .0) in a .1 (b, rw (set-read k l, row-read u b) at (h .1)),
-      )
-
-  pub words-standard : Standard (built st)
-  unfolding rolesOf
-  words-standard =
-      let ρ = rolesOf st in
-      let low : (k : ℕ) → Stands (built st) k → k < candidateCount ρ = λ k h. stands-below ρ (st .standing) o k (stood k h) in
-      let ms : (k u : ℕ) → Stands (built st) k → Member (roleRowsOf (built st)) k u ↔ So (has (authorisedUsers ρ k) u) =
-      λ k u h. rw rows-are (members-iff ρ (st .standing) o k u (stood k h)) in
-      let ps : (k p : ℕ) → Stands (built st) k → Holds (roleRowsOf (built st)) k p ↔ ((p < ρ .permissions) × So (has (permissionSet ρ k) p)) =
-      λ k p h. rw rows-are (holds-iff ρ (st .standing) o k p (stood k h)) in
-      record {
-        members = λ k u h. Iff·trans (ms k u h) (users-read k u (low k h));
-        permissions = λ k p h.
-            rw (set-read k (low k h))
-            (λ x. ps k p h .0 x .1, λ x. ps k p h .1 (item-below (st .permissions) (permissionSet ρ k) p (set-below k (low k h)) x, x));
-        held = λ k u p h m d.
-            let a = users-read k u (low k h) .0 (ms k u h .0 m) in
-            subset-iff (roleSet (built st) k) (crewRow (built st) u) .0 (a .1) p (rw (set-read k (low k h)) (ps k p h .0 d .1));
-      }
 
 -- ---- a strike and a restoration that are accepted
 
@@ -273,7 +220,8 @@ claim ws h calls =
           rw words
           (subst (λ (rows : List ℕ). Authorised (roleRowsOf (built end)) u p ↔ So (has (getD rows u 0) p)) (same .2)
           (words-authorised end f u p (rw (same .0) lu) (rw (same .1) lp)));
-      standard = rw words (words-standard end f);
+      rows = built-rows (wordsAfter ws calls) (after-sound ws h calls);
+      standard = standard-held (wordsAfter ws calls) (after-sound ws h calls);
       no-return = λ k. rw words (words-no-return end f k);
       no-replacement = λ x y. rw words (words-no-replacement end f x y);
       strikes-altered = λ before rest k _ e. strike-only (wordsAfter ws before) (after-sound ws h before) k (sym (code-then before (strike k)) ∙ e);

@@ -20,12 +20,13 @@ use Rattle.model.specs.Chains.{may}
 use Rattle.model.specs.Coverage.{strikable}
 use Rattle.model.specs.Quality.{Weights, Tolerance, counted, counts, weigh, quality}
 use Rattle.model.specs.State.{State, rolesOf, standingNow, fresh, rowsWithin}
-use Rattle.model.specs.Record.{recordLength, crewStart, setsStart, built, stateOf, roleRowsOf, crewRow, Stands, sound}
+use Rattle.model.specs.Record.{recordLength, crewStart, setsStart, built, stateOf, roleRowsOf, sound}
+use Rattle.model.specs.Notions.{crewRow, Stands, Bare}
 use Rattle.model.specs.Refusals.{_orElse_, soundnessRefusal, roleRefusal, absentRefusal, standingRefusal, strikeRefusal, pairRefusal, weightsRefusal, lengthRefusal, candidatesRefusal}
 use Rattle.model.specs.Machine.{Call, reply, refusal, accepted, Outcome}
 use Rattle.model.specs.Machine.Call.{strike, restore, eliminate, review}
 use Rattle.model.specs.Calls.{unfit, miningRefusal, Mined, mine, Edited, edit, Told, told, qualityOf, mayOf}
-use Rattle.model.specs.Conditions.{Fault, fault, numbersOf, Exactly, Condition1, Bare, MoreThan, WeightsInRange, ToleranceInRange, miningFaults, MinedFrom, MiningConditions, EditCondition1, StrikeConditions, RestoreConditions, EliminateConditions, ReviewConditions, QualityConditions, MayConditions}
+use Rattle.model.specs.Conditions.{Fault, fault, numbersOf, Exactly, Condition1, MoreThan, WeightsInRange, ToleranceInRange, miningFaults, MinedFrom, MiningConditions, EditCondition1, StrikeConditions, RestoreConditions, EliminateConditions, ReviewConditions, QualityConditions, MayConditions}
 use Rattle.model.proofs.Growing.{among-length}
 use Rattle.model.proofs.Candidates.{candidate-iff, candidates-growing}
 use Rattle.model.proofs.Lists.{length-rowsAt, getD-rowsAt}
@@ -36,8 +37,9 @@ use Rattle.model.proofs.Steps.{Fit, mining-fit, step-accepted}
 use Rattle.model.proofs.Elimination.{eliminated-closed, eliminated-examined}
 use Rattle.model.proofs.Review.{reviewed-closed}
 use Rattle.model.proofs.Calls.{mine-code, mine-accepted, mine-refused, edit-code, edit-refused, told-accepted, told-refused, told-code}
-use Rattle.model.proofs.Claim.{sound-fit, fit-sound, code-is, edit-fit, edit-replied, edit-state, set-read}
-use Rattle.model.proofs.Sound.{sound-count, sound-rows, may-authorised, may-granted, sound-stands, strikable-read, bare-read}
+use Rattle.model.proofs.Claim.{sound-fit, fit-sound, code-is, edit-fit, edit-replied, edit-state}
+use Rattle.model.proofs.Notions.{set-read, sound-stands, strikable-read, bare-read, built-rows}
+use Rattle.model.proofs.Sound.{sound-count, sound-rows, may-authorised, may-granted}
 use Rattle.model.proofs.Faults.{Finds, finds-not, finds-as, Above, above-lower, Judged, judged-next, judged-last}
 
 -- a check that asks P finds that Q does not hold, where P is Q
@@ -205,7 +207,7 @@ module _ (n m : ℕ) (crew ws : List ℕ) (ok : miningRefusal n m crew ws ≡ 0)
   unfolding fresh rolesOf candidateCount permissionSet
   sets-read =
       ext-getD 0 (rowsAt c (built st) setsStart) (candidates rows) (length-rowsAt c (built st) setsStart)
-      (λ k b. let l : k < c = rw (length-rowsAt c (built st) setsStart) at b in getD-rowsAt c (built st) setsStart k l ∙ set-read st f k l)
+      (λ k b. let l : k < c = rw (length-rowsAt c (built st) setsStart) at b in getD-rowsAt c (built st) setsStart k l ∙ set-read st (f .limits) k l)
 
   mined-from : MinedFrom n m crew c (built st)
   unfolding fresh rolesOf candidateCount stateOf
@@ -220,6 +222,7 @@ module _ (n m : ℕ) (crew ws : List ℕ) (ok : miningRefusal n m crew ws ≡ 0)
         growing = rw sets-read (candidates-growing rows);
         standing = λ k.
             rw (read-standing st (f .limits)) (λ s. collect-iff c (λ k. true) k .0 s .0, λ l. collect-iff c (λ k. true) k .1 (l, refl));
+        building = built-rows (built st) (fit-sound st f);
         is-sound = fit-sound st f;
       }
 

@@ -22,6 +22,7 @@ pub mod Bounds
 pub mod Steps
 pub mod Calls
 pub mod Faults
+pub mod Notions
 pub mod Claim
 pub mod Shortcuts
 pub mod Intervals

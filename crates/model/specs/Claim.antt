@@ -7,11 +7,12 @@ use mathlib.Core.Logic.{_↔_}
 use mathlib.Core.List.{List, [], _∷_, _++_}
 use Prim.Native.Nat.{ℕ, suc, _<_}
 use lib.ListN.{getD}
-use Rattle.sets.specs.Sets.{has, single, subset}
+use Rattle.sets.specs.Sets.{has, single}
 use Rattle.model.specs.Lists.{OneOf}
-use Rattle.model.specs.Chains.{link, Chain, linksBut, Authorised, Member, Holds}
+use Rattle.model.specs.Chains.{link, Chain, linksBut, Authorised}
 use Rattle.model.specs.State.{State, rolesOf}
-use Rattle.model.specs.Record.{built, stateOf, roleRowsOf, crewRow, roleSet, Stands}
+use Rattle.model.specs.Record.{built, stateOf, roleRowsOf}
+use Rattle.model.specs.Notions.{BuiltRows, Standard}
 use Rattle.model.specs.Altered.{Altered}
 use Rattle.model.specs.Machine.{Call, Reply, stateAfter, repliesTo}
 use Rattle.model.specs.Machine.Call.{strike, restore, eliminate, review}
@@ -47,18 +48,6 @@ pub data OneByOne (call : ℕ → Call) (Altering : List ℕ → ℕ → Type 0)
   next : (ws : List ℕ) (k n : ℕ) (left : List ℕ) → Accepted ws (call k) → Altering ws k → OneByOne call Altering (edit ws (call k) .words) n left
       → OneByOne call Altering ws (suc n) left
 
--- ---- the standard
-
--- "The standard for role-based access control asks, roughly, that each member of a role hold the permissions of that role and of every role below it."
--- Of the words of a record, for every standing role k:
-pub record Standard (ws : List ℕ) : Type 0 where
-  -- the direct members of k and of the roles above it are A(k), "the set of persons whose crew row contains S(k)"
-  pub members : (k u : ℕ) → Stands ws k → Member (roleRowsOf ws) k u ↔ ((u < getD ws 0 0) × So (subset (roleSet ws k) (crewRow ws u)))
-  -- the direct permissions of k and of the roles below it are S(k)
-  pub permissions : (k p : ℕ) → Stands ws k → Holds (roleRowsOf ws) k p ↔ So (has (roleSet ws k) p)
-  -- each of the former holds each of the latter, by the crew list
-  pub held : (k u p : ℕ) → Stands ws k → Member (roleRowsOf ws) k u → Holds (roleRowsOf ws) k p → So (has (crewRow ws u) p)
-
 -- ---- the condition
 
 -- The first call of the list is lent the record ws; the machine starts from the state st, and is fed the same calls
@@ -72,10 +61,12 @@ pub record Condition3 (st : State) (ws : List ℕ) (calls : List Call) : Type 0 
       → OneOf (edit (wordsAfter ws before) call .replied .code) (0 ∷ 6 ∷ 7 ∷ 8 ∷ 9 ∷ [])
   -- "Every word of the record is what building afresh from the crew list and those roles gives."
   pub afresh : wordsAfter ws calls ≡ built (stateAfter st calls)
+  -- so the rows are the building of those roles
+  pub rows : BuiltRows (wordsAfter ws calls)
   -- "Each person is authorised for exactly what the crew list grants."
   pub authorised : (u p : ℕ) → u < st .users → p < st .permissions
       → Authorised (roleRowsOf (wordsAfter ws calls)) u p ↔ So (has (getD (st .rows) u 0) p)
-  -- "each member of a role hold the permissions of that role and of every role below it"
+  -- "The standard for role-based access control asks, roughly, that each member of a role hold the permissions of that role and of every role below it."
   pub standard : Standard (wordsAfter ws calls)
   -- "No chain of links returns to its start"
   pub no-return : (k : ℕ) → Chain (link (roleRowsOf (wordsAfter ws calls))) k k → ⊥

@@ -1,4 +1,12 @@
--- Conditions 1 and 2 of each outside call, over what it was lent and what it answered and left. Quotations are the customer's words.
+-- Conditions 1 and 2 of each outside call, over what it was lent and what it answered and left. Quotations are the customer's words, there and in
+-- document 01.
+--
+-- 1. "The answer to every call is a full result or one of ten numbered refusals, for every list, record, number and text that can be lent. A refusal
+-- returns its number and zeros and leaves each lent buffer unaltered, since nobody can patch a caller later."
+--
+-- 2. "Roles, links and quality agree with the published mining definitions as condensed in document 01: a set is mined exactly when it is a nonempty
+-- intersection of persons' permission sets; a person is authorised for an action exactly when the crew list says so; a role can be struck exactly
+-- when every grant it covers is covered by another standing role."
 -- Assumes nothing.
 use mathlib.Core.Path.{_≡_}
 use mathlib.Core.Bool.{So}
@@ -12,7 +20,8 @@ use Rattle.model.specs.Candidates.{Intersection, Listed, Growing}
 use Rattle.model.specs.Chains.{Authorised}
 use Rattle.model.specs.Quality.{Weights, Tolerance, quality}
 use Rattle.model.specs.State.{rolesOf}
-use Rattle.model.specs.Record.{recordLength, crewStart, setsStart, stateOf, roleRowsOf, crewRow, roleSet, Stands, sound}
+use Rattle.model.specs.Record.{recordLength, crewStart, setsStart, stateOf, roleRowsOf, sound}
+use Rattle.model.specs.Notions.{crewRow, Stands, Spared, Bare, BuiltRows}
 use Rattle.model.specs.Calls.{Mined, Edited, Told}
 
 -- ---- condition 1, of any call
@@ -47,27 +56,7 @@ pub record Condition1 (faults : List Fault) (code : ℕ) (beside lent left : Lis
   -- "and leaves each lent buffer unaltered": its length too
   pub unaltered : code ≢ 0 → left ≡ lent
 
--- ---- the paper's words, of the words of a record
-
--- role k covers the grant (u, p): "u is in A(k) and p in S(k)", where the crew row of u contains S(k)
-pub record Covers (ws : List ℕ) (k u p : ℕ) : Type 0 where
-  pub user : u < getD ws 0 0
-  pub contains : (q : ℕ) → So (has (roleSet ws k) q) → So (has (crewRow ws u) q)
-  pub permission : So (has (roleSet ws k) p)
-
--- "covered by another standing role"
-pub record CoveredByAnother (ws : List ℕ) (k u p : ℕ) : Type 0 where
-  pub role : ℕ
-  pub other : role ≢ k
-  pub stands : Stands ws role
-  pub covers : Covers ws role u p
-
--- a grant that k covers and no other standing role does
-pub record Bare (ws : List ℕ) (k : ℕ) : Type 0 where
-  pub user : ℕ
-  pub permission : ℕ
-  pub covered : Covers ws k user permission
-  pub alone : ¬ CoveredByAnother ws k user permission
+-- ---- ranges
 
 -- more than `most` candidates: so many nonempty intersections of rows, each once
 pub record MoreThan (most : ℕ) (rows : List ℕ) : Type 0 where
@@ -161,7 +150,9 @@ pub record MinedFrom (n m : ℕ) (crew : List ℕ) (c : ℕ) (ws : List ℕ) : T
   pub growing : Growing (rowsAt c ws setsStart)
   -- "with all candidates standing"
   pub standing : (k : ℕ) → Stands ws k ↔ (k < c)
-  -- the rows are "the building of its standing set", and all else of "A record is sound when"
+  -- "Roles, links ..": the rows are the building of the standing roles
+  pub building : BuiltRows ws
+  -- and the record is sound
   pub is-sound : So (sound ws)
 
 pub record MiningConditions (n m : ℕ) (crew ws : List ℕ) (r : Mined) : Type 0 where
@@ -175,7 +166,7 @@ EditCondition1 faults ws e = Condition1 faults (e .replied .code) (e .replied .c
 pub record StrikeConditions (ws : List ℕ) (k : ℕ) (e : Edited) : Type 0 where
   pub condition1 : EditCondition1 (strikeFaults ws k) ws e
   -- "a role can be struck exactly when every grant it covers is covered by another standing role"
-  pub condition2 : So (sound ws) → Stands ws k → (e .replied .code ≡ 0) ↔ ((u p : ℕ) → Covers ws k u p → CoveredByAnother ws k u p)
+  pub condition2 : So (sound ws) → Stands ws k → (e .replied .code ≡ 0) ↔ Spared ws k
   -- "R loses k"
   pub loses : e .replied .code ≡ 0 → (j : ℕ) → Stands (e .words) j ↔ (Stands ws j × (j ≢ k))
 
@@ -189,7 +180,7 @@ pub record EliminateConditions (ws : List ℕ) (w : Weights) (t : Tolerance) (e 
   -- "at most c(c + 1)/2"
   pub taken-up : e .replied .code ≡ 0 → 2 * e .replied .examined ≤ getD ws 2 0 * (getD ws 2 0 + 1)
   -- "When elimination ends, each standing role is not strikable or has b·q' ≥ a·q"
-  pub ended : e .replied .code ≡ 0 → (k : ℕ) → Stands (e .words) k → ((u p : ℕ) → Covers (e .words) k u p → CoveredByAnother (e .words) k u p)
+  pub ended : e .replied .code ≡ 0 → (k : ℕ) → Stands (e .words) k → Spared (e .words) k
       → t .numerator * qualityOver (e .words) w (setAt 2 (e .words) 4) ≤ t .denominator * qualityOver (e .words) w (setAt 2 (e .words) 4 ∖ single k)
 
 pub record ReviewConditions (ws : List ℕ) (w : Weights) (e : Edited) : Type 0 where

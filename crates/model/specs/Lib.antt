@@ -6,6 +6,7 @@ pub mod Coverage
 pub mod Quality
 pub mod State
 pub mod Record
+pub mod Notions
 pub mod Altered
 pub mod Refusals
 pub mod Machine

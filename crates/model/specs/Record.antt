@@ -1,13 +1,12 @@
 -- The record, word by word; building afresh; sound.
 -- Assumes nothing.
 use mathlib.Core.Path.{_≡_}
-use mathlib.Core.Bool.{Bool, So}
+use mathlib.Core.Bool.{Bool}
 use mathlib.Core.List.{List, [], _∷_}
 use Prim.Native.Nat.{ℕ, _+_, _-_, _*_, _/_, _%_, _^_, _≤_, _<_}
 use lib.Dec.{eqb, leb, ltb}
 use lib.ListN.{length, getD}
 use Rattle.sets.specs.Truth.{_and_, if_then_else_, all}
-use Rattle.sets.specs.Sets.{has}
 use Rattle.sets.specs.Words.{word}
 use Rattle.model.specs.Lists.{tabulate, setAt, rowsAt}
 use Rattle.model.specs.Hierarchy.{RoleRows, candidateCount, permissionSet, directPermissions, directMembers, immediateJuniors}
@@ -59,17 +58,6 @@ unfoldable pub built : State → List ℕ
 built st = tabulate recordLength (wordAt st)
 
 -- ---- reading a record
-
--- the crew row of user u, and S(k)
-abbrev pub crewRow : List ℕ → ℕ → ℕ
-crewRow ws u = setAt 4 ws (crewStart + 4 * u)
-
-abbrev pub roleSet : List ℕ → ℕ → ℕ
-roleSet ws k = setAt 4 ws (setsStart + 4 * k)
-
--- role k stands: "A role's standing mark is its bit in words 4 and 5."
-abbrev pub Stands : List ℕ → ℕ → Type 0
-Stands ws k = So (has (setAt 2 ws 4) k)
 
 -- the state that a record's header and crew rows hold
 unfoldable pub stateOf : List ℕ → State
