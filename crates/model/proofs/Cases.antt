@@ -1,4 +1,4 @@
--- The starred cases of document 01, one theorem about the definitions: "Rows 3, 6, 7, m = 3, weights 1."
+-- The starred cases of document 01, one theorem about the definitions: "Rows 3, 6, 7, m = 3, weights 1." Beside them a table of refusals.
 -- Assumes nothing.
 use mathlib.Core.Path.{_≡_, refl}
 use mathlib.Core.Bool.{Bool, true, false, So}

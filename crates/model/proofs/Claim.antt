@@ -234,12 +234,13 @@ claim ws h calls =
     code-then : (before : List Call) (call : Call) → edit (wordsAfter ws before) call .replied .code ≡ refusal (stateOf (wordsAfter ws before)) call
     code-then before call = code-is (wordsAfter ws before) (after-sound ws h before) call
 
+-- from the record built afresh from a state
+pub built-claim : (st : State) → Fit st → (calls : List Call) → Condition3 st (built st) calls
+built-claim st f calls = subst (λ (x : State). Condition3 x (built st) calls) (state-back st (f .limits)) (claim (built st) (fit-sound st f) calls)
+
 -- "from a freshly mined panel": the record as an accepted mining left it, and the machine from the same crew list
 pub mined-claim : (n m : ℕ) (crew ws : List ℕ) → mine n m crew ws .code ≡ 0 → (calls : List Call)
     → Condition3 (fresh n m (rowsAt n crew 0)) (mine n m crew ws .words) calls
 mined-claim n m crew ws e calls =
-    let st = fresh n m (rowsAt n crew 0) in
     let ok : miningRefusal n m crew ws ≡ 0 = sym (mine-code n m crew ws) ∙ e in
-    let f = mining-fit n m crew ws ok in
-    rw (mine-accepted n m crew ws ok)
-    (subst (λ (x : State). Condition3 x (built st) calls) (state-back st (f .limits)) (claim (built st) (fit-sound st f) calls))
+    rw (mine-accepted n m crew ws ok) (built-claim (fresh n m (rowsAt n crew 0)) (mining-fit n m crew ws ok) calls)
