@@ -2,7 +2,7 @@
 -- Assumes nothing.
 use mathlib.Core.Path.{_≡_, refl, sym, _∙_, ap, ap₂, subst}
 use mathlib.Core.Bool.{So}
-use mathlib.Core.Logic.{_↔_, _≢_}
+use mathlib.Core.Logic.{_↔_, _≢_, ⊎-elim}
 use mathlib.Core.List.{List, [], _∷_, map}
 use Prim.Native.Nat.{ℕ, _<_}
 use lib.Dec.{eqb}
@@ -22,7 +22,7 @@ use Rattle.model.specs.Machine.{Call, Reply, Outcome, refusal, accepted,
 use Rattle.model.specs.Machine.Call.{strike, restore, eliminate, review}
 use Rattle.model.specs.Quality.{Weights, Tolerance}
 use Rattle.model.specs.Calls.{Edited, edit, miningRefusal, mine}
-use Rattle.model.specs.Claim.{wordsAfter, repliesGiven, StrikeAltered, RestoreAltered, OneByOne, Condition3}
+use Rattle.model.specs.Claim.{wordsAfter, repliesGiven, Accepted, StrikeAltered, RestoreAltered, OneByOne, Condition3}
 use Rattle.model.proofs.Chains.{may-iff}
 use Rattle.model.proofs.Reading.{Ordered}
 use Rattle.model.proofs.Building.{building-below, granted-may, may-possible, no-return, no-replacement}
@@ -214,7 +214,6 @@ claim ws h calls =
     record {
       standing = after-state ws h calls;
       answers = after-answers ws h calls;
-      numbers = λ before rest call _. rw (code-then before call) (refusal-number (stateOf (wordsAfter ws before)) call);
       afresh = words;
       authorised = λ u p lu lp.
           rw words
@@ -224,15 +223,24 @@ claim ws h calls =
       standard = standard-held (wordsAfter ws calls) (after-sound ws h calls);
       no-return = λ k. rw words (words-no-return end f k);
       no-replacement = λ x y. rw words (words-no-replacement end f x y);
-      strikes-altered = λ before rest k _ e. strike-only (wordsAfter ws before) (after-sound ws h before) k (sym (code-then before (strike k)) ∙ e);
-      restorations-altered = λ before rest k _ e. restore-only (wordsAfter ws before) (after-sound ws h before) k (sym (code-then before (restore k)) ∙ e);
-      eliminations-altered = λ before rest w t _ e. eliminate-only (wordsAfter ws before) (after-sound ws h before) w t (sym (code-then before (eliminate w t)) ∙ e);
-      reviews-altered = λ before rest w _ e. review-only (wordsAfter ws before) (after-sound ws h before) w (sym (code-then before (review w)) ∙ e);
-      refused-altered-nothing = λ before rest call _ d. refused-only (wordsAfter ws before) (after-sound ws h before) call (λ e. d (code-then before call ∙ e));
+      strikes-altered = λ before rest call _ k e a. strike-only (wordsAfter ws before) (after-sound ws h before) k (passed before call (strike k) e a);
+      restorations-altered = λ before rest call _ k e a. restore-only (wordsAfter ws before) (after-sound ws h before) k (passed before call (restore k) e a);
+      eliminations-altered = λ before rest call _ w t e a.
+          rw e (eliminate-only (wordsAfter ws before) (after-sound ws h before) w t (passed before call (eliminate w t) e a));
+      reviews-altered = λ before rest call _ w e a.
+          rw e (review-only (wordsAfter ws before) (after-sound ws h before) w (passed before call (review w) e a));
+      refused = λ before rest call _ d.
+          let lent = wordsAfter ws before in
+          let c = code-then before call in
+          let no : refusal (stateOf lent) call ≢ 0 = λ e. d (c ∙ e) in
+          (refused-only lent (after-sound ws h before) call no, rw c (⊎-elim (λ e. absurd (no e)) (λ o. o) (refusal-number (stateOf lent) call)));
     }
   where
     code-then : (before : List Call) (call : Call) → edit (wordsAfter ws before) call .replied .code ≡ refusal (stateOf (wordsAfter ws before)) call
     code-then before call = code-is (wordsAfter ws before) (after-sound ws h before) call
+
+    passed : (before : List Call) (call same : Call) → call ≡ same → Accepted (wordsAfter ws before) call → refusal (stateOf (wordsAfter ws before)) same ≡ 0
+    passed before call same e a = sym (code-then before same) ∙ (rw e at a)
 
 -- from the record built afresh from a state
 pub built-claim : (st : State) → Fit st → (calls : List Call) → Condition3 st (built st) calls

@@ -1,5 +1,6 @@
--- Condition 3: what holds after every list of strikes, restorations, eliminations and reviews, one named clause for each part of it. Quotations are
--- the customer's words.
+-- Condition 3: "For every list of strikes, restorations, eliminations and reviews, refused ones included, from a freshly mined panel, each call getting
+-- the record as the one before left it, the following holds after the list." One named clause for each part. Quotations are the customer's words, in the
+-- conditions and in document 01.
 -- Assumes nothing.
 use mathlib.Core.Path.{_≡_}
 use mathlib.Core.Bool.{So}
@@ -50,18 +51,19 @@ pub data OneByOne (call : ℕ → Call) (Altering : List ℕ → ℕ → Type 0)
 
 -- ---- the condition
 
+-- of each call of the list, and the record that it is lent
+abbrev pub EachCall : List ℕ → List Call → (List ℕ → Call → Type 0) → Type 0
+EachCall ws calls P = (before rest : List Call) (call : Call) → calls ≡ before ++ (call ∷ rest) → P (wordsAfter ws before) call
+
 -- The first call of the list is lent the record ws; the machine starts from the state st, and is fed the same calls
 pub record Condition3 (st : State) (ws : List ℕ) (calls : List Call) : Type 0 where
   -- "The standing roles are those that document 01's plain machine gives for the same calls"
   pub standing : stateOf (wordsAfter ws calls) ≡ stateAfter st calls
   -- "and every answer on the way equals the machine's."
   pub answers : repliesGiven ws calls ≡ repliesTo st calls
-  -- so every number is 0 or one of 6, 7, 8 and 9: 1 and 5 never come
-  pub numbers : (before rest : List Call) (call : Call) → calls ≡ before ++ (call ∷ rest)
-      → OneOf (edit (wordsAfter ws before) call .replied .code) (0 ∷ 6 ∷ 7 ∷ 8 ∷ 9 ∷ [])
   -- "Every word of the record is what building afresh from the crew list and those roles gives."
   pub afresh : wordsAfter ws calls ≡ built (stateAfter st calls)
-  -- so the rows are the building of those roles
+  -- so its rows are the building of those roles
   pub rows : BuiltRows (wordsAfter ws calls)
   -- "Each person is authorised for exactly what the crew list grants."
   pub authorised : (u p : ℕ) → u < st .users → p < st .permissions
@@ -73,19 +75,13 @@ pub record Condition3 (st : State) (ws : List ℕ) (calls : List Call) : Type 0 
   -- "and no link could be replaced by a chain of others."
   pub no-replacement : (x y : ℕ) → So (link (roleRowsOf (wordsAfter ws calls)) x y) → Chain (linksBut (link (roleRowsOf (wordsAfter ws calls))) x y) x y → ⊥
   -- "Each strike or restoration altered only the standing mark of its role and the rows of that role, its immediate seniors and its immediate juniors."
-  pub strikes-altered : (before rest : List Call) (k : ℕ) → calls ≡ before ++ (strike k ∷ rest)
-      → Accepted (wordsAfter ws before) (strike k) → StrikeAltered (wordsAfter ws before) k
-  pub restorations-altered : (before rest : List Call) (k : ℕ) → calls ≡ before ++ (restore k ∷ rest)
-      → Accepted (wordsAfter ws before) (restore k) → RestoreAltered (wordsAfter ws before) k
-  -- each single strike inside an elimination too, and each single restoration inside a review: they are as many as the answer says
-  pub eliminations-altered : (before rest : List Call) (w : Weights) (t : Tolerance) → calls ≡ before ++ (eliminate w t ∷ rest)
-      → Accepted (wordsAfter ws before) (eliminate w t)
-      → OneByOne strike StrikeAltered (wordsAfter ws before) (edit (wordsAfter ws before) (eliminate w t) .replied .changed)
-      (edit (wordsAfter ws before) (eliminate w t) .words)
-  pub reviews-altered : (before rest : List Call) (w : Weights) → calls ≡ before ++ (review w ∷ rest)
-      → Accepted (wordsAfter ws before) (review w)
-      → OneByOne restore RestoreAltered (wordsAfter ws before) (edit (wordsAfter ws before) (review w) .replied .changed)
-      (edit (wordsAfter ws before) (review w) .words)
-  -- "A refused call alters nothing."
-  pub refused-altered-nothing : (before rest : List Call) (call : Call) → calls ≡ before ++ (call ∷ rest)
-      → ¬ Accepted (wordsAfter ws before) call → edit (wordsAfter ws before) call .words ≡ wordsAfter ws before
+  pub strikes-altered : EachCall ws calls (λ lent call. (k : ℕ) → call ≡ strike k → Accepted lent call → StrikeAltered lent k)
+  pub restorations-altered : EachCall ws calls (λ lent call. (k : ℕ) → call ≡ restore k → Accepted lent call → RestoreAltered lent k)
+  -- so did each single strike inside an elimination and each single restoration inside a review; they are as many as the answer says
+  pub eliminations-altered : EachCall ws calls (λ lent call. (w : Weights) (t : Tolerance) → call ≡ eliminate w t → Accepted lent call
+      → OneByOne strike StrikeAltered lent (edit lent call .replied .changed) (edit lent call .words))
+  pub reviews-altered : EachCall ws calls (λ lent call. (w : Weights) → call ≡ review w → Accepted lent call
+      → OneByOne restore RestoreAltered lent (edit lent call .replied .changed) (edit lent call .words))
+  -- "A refused call alters nothing", and its number is 6, 7, 8 or 9: "1 and 5 never come"
+  pub refused : EachCall ws calls (λ lent call. ¬ Accepted lent call
+      → (edit lent call .words ≡ lent) × OneOf (edit lent call .replied .code) (6 ∷ 7 ∷ 8 ∷ 9 ∷ []))
