@@ -5,6 +5,7 @@ use mathlib.Core.Bool.{Bool, true, false, So}
 use mathlib.Core.Logic.{_↔_, _≢_, _⊎_, ⊎-elim, Iff·trans}
 use mathlib.Core.List.{List, [], _∷_}
 use Prim.Native.Nat.{ℕ, zero, suc, _*_, _≤_, _<_}
+use native.Mathlib.Nat.{lt-irrefl}
 use native.Mathlib.Omega.{arith}
 use lib.ListN.{length, getD}
 use lib.Seq.{ext-getD}
@@ -21,18 +22,18 @@ use Rattle.model.specs.Coverage.{strikable}
 use Rattle.model.specs.Quality.{Weights, Tolerance, counted, counts, weigh, quality}
 use Rattle.model.specs.State.{State, rolesOf, standingNow, fresh, rowsWithin}
 use Rattle.model.specs.Record.{recordLength, crewStart, setsStart, built, stateOf, roleRowsOf, sound}
-use Rattle.model.specs.Notions.{crewRow, Stands, Bare}
-use Rattle.model.specs.Refusals.{_orElse_, soundnessRefusal, roleRefusal, absentRefusal, standingRefusal, strikeRefusal, pairRefusal, weightsRefusal, lengthRefusal, candidatesRefusal}
+use Rattle.model.specs.Notions.{crewRow, Stands, Spared, Bare}
+use Rattle.model.specs.Refusals.{_orElse_, soundnessRefusal, roleRefusal, absentRefusal, standingRefusal, strikeRefusal, pairRefusal, weightsRefusal, lengthRefusal}
 use Rattle.model.specs.Machine.{Call, reply, refusal, accepted, Outcome}
 use Rattle.model.specs.Machine.Call.{strike, restore, eliminate, review}
 use Rattle.model.specs.Calls.{unfit, miningRefusal, Mined, mine, Edited, edit, Told, told, qualityOf, mayOf}
-use Rattle.model.specs.Conditions.{Fault, fault, numbersOf, Exactly, Condition1, MoreThan, WeightsInRange, ToleranceInRange, miningFaults, MinedFrom, MiningConditions, EditCondition1, StrikeConditions, RestoreConditions, EliminateConditions, ReviewConditions, QualityConditions, MayConditions}
+use Rattle.model.specs.Conditions.{Rule, rule, numbersOf, Exactly, Condition1, MoreThan, WeightsInRange, ToleranceInRange, miningRules, MinedFrom, MiningConditions, EditCondition1, StrikeConditions, RestoreConditions, EliminateConditions, ReviewConditions, QualityConditions, MayConditions}
 use Rattle.model.proofs.Growing.{among-length}
 use Rattle.model.proofs.Candidates.{candidate-iff, candidates-growing}
 use Rattle.model.proofs.Lists.{length-rowsAt, getD-rowsAt}
 use Rattle.model.proofs.Record.{withinLimits-iff, rowsWithin-iff, read-users, read-permissions, read-count, read-zeros, read-standing, state-back}
 use Rattle.model.proofs.Bounds.{weightsAllowed-iff, tolerance-iff}
-use Rattle.model.proofs.Refusals.{Check, orElse-assoc, orElse-iff, unfit-iff, length-check, limits-check, crew-check, candidates-check, soundness-check, role-check, pair-check, absent-check, standing-check, strike-check, weights-check, eliminate-check, strike-iff}
+use Rattle.model.proofs.Refusals.{orElse-assoc, orElse-iff, unfit-iff, length-check, limits-check, crew-check, candidates-check, soundness-check, role-check, pair-check, absent-check, standing-check, strike-check, weights-check, eliminate-check, strike-iff}
 use Rattle.model.proofs.Steps.{Fit, mining-fit, step-accepted}
 use Rattle.model.proofs.Elimination.{eliminated-closed, eliminated-examined}
 use Rattle.model.proofs.Review.{reviewed-closed}
@@ -40,68 +41,72 @@ use Rattle.model.proofs.Calls.{mine-code, mine-accepted, mine-refused, 
 use Rattle.model.proofs.Claim.{sound-fit, fit-sound, code-is, edit-fit, edit-replied, edit-state}
 use Rattle.model.proofs.Notions.{set-read, sound-stands, strikable-read, bare-read, built-rows}
 use Rattle.model.proofs.Sound.{sound-count, sound-rows, may-authorised, may-granted}
-use Rattle.model.proofs.Faults.{Finds, finds-not, finds-as, Above, above-lower, Judged, judged-next, judged-last}
-
--- a check that asks P finds that Q does not hold, where P is Q
-finds-other : {a n : ℕ} {P : Type 0} (Q : Type 0) → Check a n P → P ↔ Q → Finds a (fault n (¬ Q))
-finds-other Q c e = finds-as (¬ Q) (finds-not c) (λ d q. d (e .1 q), λ d p. d (e .0 p))
-
-holds : (t : Bool) → ¬ (¬ So t) → So t
-holds t d = by-test t (λ h. h) (λ f. absurd (d (So-not f)))
+use Rattle.model.proofs.Rules.{Judges, judges, judges-as, judges-broken, Above, above-lower, Judged, judged-next, judged-last}
 
 -- ---- the record that a call is lent: 1, 5
 
--- what is found in it, and then in the rest
-judged-record : (ws : List ℕ) (faults : List Fault) (b : ℕ) → Above 5 faults → (So (sound ws) → Judged faults b)
-    → Judged (fault 1 (length ws ≢ recordLength) ∷ fault 5 (¬ So (sound ws)) ∷ faults) (unfit ws orElse b)
+-- and then the call's own rules
+judged-record : (ws : List ℕ) (rules : List Rule) (b : ℕ) → Above 5 rules → (So (sound ws) → Judged rules b)
+    → Judged (rule 1 (length ws ≡ recordLength) ∷ rule 5 (So (sound ws)) ∷ rules) (unfit ws orElse b)
 unfolding unfit
-judged-record ws faults b up rest =
-    let sounds : Fault = fault 5 (¬ So (sound ws)) in
-    subst (Judged (fault 1 (length ws ≢ recordLength) ∷ sounds ∷ faults)) (sym (orElse-assoc (lengthRefusal ws) (soundnessRefusal ws) b))
-    (judged-next (finds-not (length-check ws)) (sounds ∷ faults) (omega arith, above-lower 1 5 faults (omega arith) up) (soundnessRefusal ws orElse b)
-    (λ _. judged-next (finds-not (soundness-check ws)) faults up b (λ d. rest (holds (sound ws) d))))
+judged-record ws rules b up rest =
+    let five : Rule = rule 5 (So (sound ws)) in
+    subst (Judged (rule 1 (length ws ≡ recordLength) ∷ five ∷ rules)) (sym (orElse-assoc (lengthRefusal ws) (soundnessRefusal ws) b))
+    (judged-next (judges (length-check ws)) (five ∷ rules) (omega arith, above-lower 1 5 rules (omega arith) up) (soundnessRefusal ws orElse b)
+    (λ _. judged-next (judges (soundness-check ws)) rules up b rest))
 
--- ---- each call's own checks
+-- ---- each call's own rules
 
 module _ (ws : List ℕ) (h : So (sound ws)) (k : ℕ) where
-  finds-role : Finds (roleRefusal (rolesOf (stateOf ws)) k) (fault 6 (¬ (k < getD ws 2 0)))
-  finds-role = finds-not (rw (← sound-count ws h) at (role-check (rolesOf (stateOf ws)) k))
+  abbrev eight : Rule
+  eight = record { number = 8; holds = Spared ws k; broken = Bare ws k }
 
-  judged-strike : Judged (fault 6 (¬ (k < getD ws 2 0)) ∷ fault 7 (¬ Stands ws k) ∷ fault 8 (Bare ws k) ∷ []) (refusal (stateOf ws) (strike k))
+  abbrev seven : Rule
+  seven = record { number = 7; holds = ¬ Stands ws k; broken = Stands ws k }
+
+  judges-role : Judges (roleRefusal (rolesOf (stateOf ws)) k) (rule 6 (k < getD ws 2 0))
+  judges-role = judges (rw (← sound-count ws h) at (role-check (rolesOf (stateOf ws)) k))
+
+  judges-strike : Stands ws k → Judges (strikeRefusal (rolesOf (stateOf ws)) (stateOf ws .standing) k) eight
+  judges-strike s =
+      let R = stateOf ws .standing in
+      let ρ = rolesOf (stateOf ws) in
+      let t = strikable-read ws h k s in
+      judges-broken (Spared ws k) (Bare ws k) (strike-check ρ R k) t
+      (λ d. bare-read ws h k s (not-So (strikable ρ R k) d), λ b x. b .alone (t .0 x (b .user) (b .permission) (b .covered)))
+
+  judged-strike : Judged (rule 6 (k < getD ws 2 0) ∷ rule 7 (Stands ws k) ∷ eight ∷ []) (refusal (stateOf ws) (strike k))
   unfolding refusal stateOf
   judged-strike =
       let R = setAt 2 ws 4 in
-      let ρ = rolesOf (stateOf ws) in
-      let rest = strikeRefusal ρ R k in
-      let bare : Stands ws k → Finds rest (fault 8 (Bare ws k)) =
-      λ s.
-      finds-as (Bare ws k) (finds-not (strike-check ρ R k))
-      (λ d. bare-read ws h k s (not-So (strikable ρ R k) d), λ b t. b .alone (strikable-read ws h k s .0 t (b .user) (b .permission) (b .covered))) in
-      judged-next finds-role (fault 7 (¬ Stands ws k) ∷ fault 8 (Bare ws k) ∷ []) (omega arith, (omega arith, tt)) (absentRefusal R k orElse rest)
-      (λ _. judged-next (finds-not (absent-check R k)) (fault 8 (Bare ws k) ∷ []) (omega arith, tt) rest (λ d. judged-last (bare (holds (has R k) d))))
+      let rest = strikeRefusal (rolesOf (stateOf ws)) R k in
+      judged-next judges-role (rule 7 (Stands ws k) ∷ eight ∷ []) (omega arith, (omega arith, tt)) (absentRefusal R k orElse rest)
+      (λ _. judged-next (judges (absent-check R k)) (eight ∷ []) (omega arith, tt) rest (λ s. judged-last (judges-strike s)))
 
-  judged-restore : Judged (fault 6 (¬ (k < getD ws 2 0)) ∷ fault 7 (Stands ws k) ∷ []) (refusal (stateOf ws) (restore k))
+  judged-restore : Judged (rule 6 (k < getD ws 2 0) ∷ seven ∷ []) (refusal (stateOf ws) (restore k))
   unfolding refusal stateOf
   judged-restore =
       let R = setAt 2 ws 4 in
-      judged-next finds-role (fault 7 (Stands ws k) ∷ []) (omega arith, tt) (standingRefusal R k)
-      (λ _. judged-last (finds-as (Stands ws k) (finds-not (standing-check R k)) (λ d. holds (has R k) (λ n. d (not-So (has R k) n)), λ s f. So-not f s)))
+      judged-next judges-role (seven ∷ []) (omega arith, tt) (standingRefusal R k)
+      (λ _.
+      judged-last
+      (judges-broken (¬ Stands ws k) (Stands ws k) (standing-check R k) (λ f. So-not f, not-So (has R k))
+      (λ d. by-test (has R k) (λ t. t) (λ f. absurd (d f)), λ s f. So-not f s)))
 
-judged-weights : (w : Weights) → Judged (fault 9 (¬ WeightsInRange w) ∷ []) (weightsRefusal w)
-judged-weights w = judged-last (finds-other (WeightsInRange w) (weights-check w) (weightsAllowed-iff w))
+judged-weights : (w : Weights) → Judged (rule 9 (WeightsInRange w) ∷ []) (weightsRefusal w)
+judged-weights w = judged-last (judges-as (WeightsInRange w) (weights-check w) (weightsAllowed-iff w))
 
-judged-eliminate : (st : State) (w : Weights) (t : Tolerance)
-    → Judged (fault 9 (¬ (WeightsInRange w × ToleranceInRange t)) ∷ []) (refusal st (eliminate w t))
+judged-eliminate : (st : State) (w : Weights) (t : Tolerance) → Judged (rule 9 (WeightsInRange w × ToleranceInRange t) ∷ []) (refusal st (eliminate w t))
 judged-eliminate st w t =
     let a = weightsAllowed-iff w in
     let b = tolerance-iff t in
     judged-last
-    (finds-other (WeightsInRange w × ToleranceInRange t) (eliminate-check st w t) (λ x. (a .0 (x .0), b .0 (x .1)), λ x. (a .1 (x .0), b .1 (x .1))))
+    (judges-as (WeightsInRange w × ToleranceInRange t) (eliminate-check st w t) (λ x. (a .0 (x .0), b .0 (x .1)), λ x. (a .1 (x .0), b .1 (x .1))))
 
 judged-pair : (ws : List ℕ) (u p : ℕ)
-    → Judged (fault 6 (¬ ((u < getD ws 0 0) × (p < getD ws 1 0))) ∷ []) (pairRefusal (stateOf ws .users) (stateOf ws .permissions) u p)
+    → Judged (rule 6 ((u < getD ws 0 0) × (p < getD ws 1 0)) ∷ []) (pairRefusal (stateOf ws .users) (stateOf ws .permissions) u p)
 unfolding stateOf
-judged-pair ws u p = judged-last (finds-not (pair-check (getD ws 0 0) (getD ws 1 0) u p))
+judged-pair ws u p = judged-last (judges (pair-check (getD ws 0 0) (getD ws 1 0) u p))
 
 -- "crew words not 4n .. or a bit at m or above"
 crew-iff : (n m : ℕ) (crew : List ℕ)
@@ -137,25 +142,29 @@ more-iff rows = (
       let z : ⊥ = omega arith in z,
 )
 
-judged-mining : (n m : ℕ) (crew ws : List ℕ) → Judged (miningFaults n m crew ws) (miningRefusal n m crew ws)
+judged-mining : (n m : ℕ) (crew ws : List ℕ) → Judged (miningRules n m crew ws) (miningRefusal n m crew ws)
 unfolding miningRefusal
 judged-mining n m crew ws =
     let rows = rowsAt n crew 0 in
-    let four : Finds (candidatesRefusal rows) (fault 4 (MoreThan 128 rows)) = finds-as (MoreThan 128 rows) (finds-not (candidates-check rows)) (more-iff rows) in
-    judged-next (finds-not (length-check ws)) _ (omega arith, (omega arith, (omega arith, tt))) _
+    let more = more-iff rows in
+    let few : (length (candidates rows) ≤ 128) ↔ (¬ MoreThan 128 rows) =
+    (λ l x. more .1 x l, λ d. either 128 (length (candidates rows)) (λ l. absurd (d (more .0 (λ f. lt-irrefl 128 (omega arith))))) (λ l. l)) in
+    judged-next (judges (length-check ws)) _ (omega arith, (omega arith, (omega arith, tt))) _
     (λ _.
-    judged-next (finds-other _ (limits-check n m) (withinLimits-iff n m)) _ (omega arith, (omega arith, tt)) _
-    (λ _. judged-next (finds-other _ (crew-check n m crew) (crew-iff n m crew)) _ (omega arith, tt) _ (λ _. judged-last four)))
+    judged-next (judges-as _ (limits-check n m) (withinLimits-iff n m)) _ (omega arith, (omega arith, tt)) _
+    (λ _.
+    judged-next (judges-as _ (crew-check n m crew) (crew-iff n m crew)) _ (omega arith, tt) _
+    (λ _. judged-last (judges-broken (¬ MoreThan 128 rows) (MoreThan 128 rows) (candidates-check rows) few more))))
 
 -- ---- condition 1
 
-judged-condition : {faults : List Fault} {code : ℕ} (given : ℕ) (beside lent left : List ℕ) → Judged faults code → given ≡ code
-    → (code ≢ 0 → ((i : ℕ) → getD beside i 0 ≡ 0) × (left ≡ lent)) → Condition1 faults given beside lent left
-judged-condition {faults} {code} given beside lent left j e refused =
+judged-condition : {rules : List Rule} {code : ℕ} (given : ℕ) (beside lent left : List ℕ) → Judged rules code → given ≡ code
+    → (code ≢ 0 → ((i : ℕ) → getD beside i 0 ≡ 0) × (left ≡ lent)) → Condition1 rules given beside lent left
+judged-condition {rules} {code} given beside lent left j e refused =
     let no : given ≢ 0 → code ≢ 0 = λ d z. d (e ∙ z) in
     record {
-      number = subst (λ (x : ℕ). OneOf x (0 ∷ numbersOf faults)) (sym e) (j .number);
-      exactly = subst (Exactly (Unit {0}) faults) (sym e) (j .exactly (Unit {0}) tt);
+      number = subst (λ (x : ℕ). OneOf x (0 ∷ numbersOf rules)) (sym e) (j .number);
+      exactly = subst (Exactly (Unit {0}) rules) (sym e) (j .exactly (Unit {0}) tt);
       zeros = λ d. refused (no d) .0;
       unaltered = λ d. refused (no d) .1;
     }
@@ -169,21 +178,21 @@ zeros2 zero = refl
 zeros2 (suc i) = zeros1 i
 
 mine-condition1 : (n m : ℕ) (crew ws : List ℕ)
-    → Condition1 (miningFaults n m crew ws) (mine n m crew ws .code) (mine n m crew ws .candidates ∷ []) ws (mine n m crew ws .words)
+    → Condition1 (miningRules n m crew ws) (mine n m crew ws .code) (mine n m crew ws .candidates ∷ []) ws (mine n m crew ws .words)
 mine-condition1 n m crew ws =
     judged-condition (mine n m crew ws .code) (mine n m crew ws .candidates ∷ []) ws (mine n m crew ws .words) (judged-mining n m crew ws)
     (mine-code n m crew ws) (λ d. rw (mine-refused n m crew ws d) (zeros1, refl))
 
-edit-condition1 : {faults : List Fault} (ws : List ℕ) (call : Call) → Judged faults (unfit ws orElse refusal (stateOf ws) call)
-    → EditCondition1 faults ws (edit ws call)
+edit-condition1 : {rules : List Rule} (ws : List ℕ) (call : Call) → Judged rules (unfit ws orElse refusal (stateOf ws) call)
+    → EditCondition1 rules ws (edit ws call)
 unfolding reply
 edit-condition1 ws call j =
     let e = edit ws call in
     judged-condition (e .replied .code) (e .replied .changed ∷ e .replied .examined ∷ []) ws (e .words) j (edit-code ws call)
     (λ d. rw (edit-refused ws call d) (zeros2, refl))
 
-told-condition1 : {faults : List Fault} (ws : List ℕ) (code value : ℕ) → Judged faults code
-    → Condition1 faults (told code value .code) (told code value .value ∷ []) ws ws
+told-condition1 : {rules : List Rule} (ws : List ℕ) (code value : ℕ) → Judged rules code
+    → Condition1 rules (told code value .code) (told code value .value ∷ []) ws ws
 told-condition1 ws code value j =
     judged-condition (told code value .code) (told code value .value ∷ []) ws ws j (told-code code value)
     (λ d. rw (told-refused code value d) (zeros1, refl))

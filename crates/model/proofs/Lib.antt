@@ -21,7 +21,7 @@ pub mod Review
 pub mod Bounds
 pub mod Steps
 pub mod Calls
-pub mod Faults
+pub mod Rules
 pub mod Notions
 pub mod Claim
 pub mod Shortcuts

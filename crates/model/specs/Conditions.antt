@@ -20,37 +20,37 @@ use Rattle.model.specs.Candidates.{Intersection, Listed, Growing}
 use Rattle.model.specs.Chains.{Authorised}
 use Rattle.model.specs.Quality.{Weights, Tolerance, quality}
 use Rattle.model.specs.State.{rolesOf}
-use Rattle.model.specs.Record.{recordLength, crewStart, setsStart, stateOf, roleRowsOf, sound}
+use Rattle.model.specs.Record.{stateOf, roleRowsOf, sound}
 use Rattle.model.specs.Notions.{crewRow, Stands, Spared, Bare, BuiltRows}
 use Rattle.model.specs.Calls.{Mined, Edited, Told}
 
 -- ---- condition 1, of any call
 
--- what sends a call back: a number, and what is then wrong with what was lent
-pub record Fault : Type 1 where
+-- a rule for what a call is lent, and the number that it answers where the rule is broken
+pub record Rule : Type 1 where
   pub number : ℕ
-  pub there : Type 0
+  pub holds : Type 0
+  pub broken : Type 0
 
-abbrev pub fault : ℕ → Type 0 → Fault
-fault number there = record { number = number; there = there }
+abbrev pub rule : ℕ → Type 0 → Rule
+rule number holds = record { number = number; holds = holds; broken = ¬ holds }
 
-abbrev pub numbersOf : List Fault → List ℕ
+abbrev pub numbersOf : List Rule → List ℕ
 numbersOf [] = []
-numbersOf (f ∷ faults) = f .number ∷ numbersOf faults
+numbersOf (r ∷ rules) = r .number ∷ numbersOf rules
 
--- A call's number is that of a fault exactly when that fault is there and none before it, and 0 exactly when none is. `None` says that there was
--- none so far
-abbrev pub Exactly : Type 0 → List Fault → ℕ → Type 0
-Exactly None [] code = (code ≡ 0) ↔ None
-Exactly None (f ∷ faults) code = ((code ≡ f .number) ↔ (None × f .there)) × Exactly (None × ¬ f .there) faults code
+-- "Checks run in rising order of number": a rule's number is answered exactly when that rule is broken and all before it hold, and 0 exactly when all
+-- hold. `Before` says that those before hold
+abbrev pub Exactly : Type 0 → List Rule → ℕ → Type 0
+Exactly Before [] code = (code ≡ 0) ↔ Before
+Exactly Before (r ∷ rules) code = ((code ≡ r .number) ↔ (Before × r .broken)) × Exactly (Before × r .holds) rules code
 
--- Of a call that can find these faults, and looks for them in this order; that answered `code`, with these numbers beside it; and that found the
--- words `lent` in the buffer and left `left`
-pub record Condition1 (faults : List Fault) (code : ℕ) (beside lent left : List ℕ) : Type 0 where
+-- Of a call with these rules, in this order, that answered `code`, with the numbers `beside` it, and that was lent the words `lent` and left `left`
+pub record Condition1 (rules : List Rule) (code : ℕ) (beside lent left : List ℕ) : Type 0 where
   -- "a full result or one of ten numbered refusals": of the ten, one that this call can give
-  pub number : OneOf code (0 ∷ numbersOf faults)
+  pub number : OneOf code (0 ∷ numbersOf rules)
   -- and each number exactly when
-  pub exactly : Exactly (Unit {0}) faults code
+  pub exactly : Exactly (Unit {0}) rules code
   -- "A refusal returns its number and zeros"
   pub zeros : code ≢ 0 → (i : ℕ) → getD beside i 0 ≡ 0
   -- "and leaves each lent buffer unaltered": its length too
@@ -79,58 +79,58 @@ qualityOver ws w R = quality (rolesOf (stateOf ws)) w R
 
 -- ---- "Who sends a call back", call by call
 
-abbrev pub miningFaults : ℕ → ℕ → List ℕ → List ℕ → List Fault
-miningFaults n m crew ws =
+abbrev pub miningRules : ℕ → ℕ → List ℕ → List ℕ → List Rule
+miningRules n m crew ws =
     -- "record length is not 2,056 words"
-    fault 1 (length ws ≢ recordLength)
+    rule 1 (length ws ≡ 2056)
     -- "n or m outside its limits"
-    ∷ fault 2 (¬ ((1 ≤ n) × (n ≤ 128) × (1 ≤ m) × (m ≤ 256)))
+    ∷ rule 2 ((1 ≤ n) × (n ≤ 128) × (1 ≤ m) × (m ≤ 256))
     -- "crew words not 4n .. or a bit at m or above"
-    ∷ fault 3 (¬ ((length crew ≡ 4 * n) × ((u p : ℕ) → u < n → So (has (getD (rowsAt n crew 0) u 0) p) → p < m)))
+    ∷ rule 3 ((length crew ≡ 4 * n) × ((u p : ℕ) → u < n → So (has (getD (rowsAt n crew 0) u 0) p) → p < m))
     -- "more than 128 candidates"
-    ∷ fault 4 (MoreThan 128 (rowsAt n crew 0))
+    ∷ record { number = 4; holds = ¬ MoreThan 128 (rowsAt n crew 0); broken = MoreThan 128 (rowsAt n crew 0) }
     ∷ []
 
-abbrev pub strikeFaults : List ℕ → ℕ → List Fault
-strikeFaults ws k =
-    fault 1 (length ws ≢ recordLength)
+abbrev pub strikeRules : List ℕ → ℕ → List Rule
+strikeRules ws k =
+    rule 1 (length ws ≡ 2056)
     -- "the record is not sound"
-    ∷ fault 5 (¬ So (sound ws))
+    ∷ rule 5 (So (sound ws))
     -- "k not below .. c"
-    ∷ fault 6 (¬ (k < getD ws 2 0))
+    ∷ rule 6 (k < getD ws 2 0)
     -- "strike of an absent role"
-    ∷ fault 7 (¬ Stands ws k)
+    ∷ rule 7 (Stands ws k)
     -- "the role can't be struck"
-    ∷ fault 8 (Bare ws k)
+    ∷ record { number = 8; holds = Spared ws k; broken = Bare ws k }
     ∷ []
 
-abbrev pub restoreFaults : List ℕ → ℕ → List Fault
-restoreFaults ws k =
-    fault 1 (length ws ≢ recordLength)
-    ∷ fault 5 (¬ So (sound ws))
-    ∷ fault 6 (¬ (k < getD ws 2 0))
+abbrev pub restoreRules : List ℕ → ℕ → List Rule
+restoreRules ws k =
+    rule 1 (length ws ≡ 2056)
+    ∷ rule 5 (So (sound ws))
+    ∷ rule 6 (k < getD ws 2 0)
     -- "restoring one that stands"
-    ∷ fault 7 (Stands ws k)
+    ∷ record { number = 7; holds = ¬ Stands ws k; broken = Stands ws k }
     ∷ []
 
-abbrev pub eliminateFaults : List ℕ → Weights → Tolerance → List Fault
-eliminateFaults ws w t =
-    fault 1 (length ws ≢ recordLength)
-    ∷ fault 5 (¬ So (sound ws))
+abbrev pub eliminateRules : List ℕ → Weights → Tolerance → List Rule
+eliminateRules ws w t =
+    rule 1 (length ws ≡ 2056)
+    ∷ rule 5 (So (sound ws))
     -- "a weight or tolerance outside its range"
-    ∷ fault 9 (¬ (WeightsInRange w × ToleranceInRange t))
+    ∷ rule 9 (WeightsInRange w × ToleranceInRange t)
     ∷ []
 
 -- review, and quality
-abbrev pub weightsFaults : List ℕ → Weights → List Fault
-weightsFaults ws w = fault 1 (length ws ≢ recordLength) ∷ fault 5 (¬ So (sound ws)) ∷ fault 9 (¬ WeightsInRange w) ∷ []
+abbrev pub weightsRules : List ℕ → Weights → List Rule
+weightsRules ws w = rule 1 (length ws ≡ 2056) ∷ rule 5 (So (sound ws)) ∷ rule 9 (WeightsInRange w) ∷ []
 
-abbrev pub mayFaults : List ℕ → ℕ → ℕ → List Fault
-mayFaults ws u p =
-    fault 1 (length ws ≢ recordLength)
-    ∷ fault 5 (¬ So (sound ws))
+abbrev pub mayRules : List ℕ → ℕ → ℕ → List Rule
+mayRules ws u p =
+    rule 1 (length ws ≡ 2056)
+    ∷ rule 5 (So (sound ws))
     -- "u, p .. not below n, m"
-    ∷ fault 6 (¬ ((u < getD ws 0 0) × (p < getD ws 1 0)))
+    ∷ rule 6 ((u < getD ws 0 0) × (p < getD ws 1 0))
     ∷ []
 
 -- ---- both conditions, call by call
@@ -141,13 +141,13 @@ pub record MinedFrom (n m : ℕ) (crew : List ℕ) (c : ℕ) (ws : List ℕ) : T
   pub users : getD ws 0 0 ≡ n
   pub permissions : getD ws 1 0 ≡ m
   pub count : getD ws 2 0 ≡ c
-  pub rows : rowsAt n ws crewStart ≡ rowsAt n crew 0
+  pub rows : rowsAt n ws 8 ≡ rowsAt n crew 0
   -- "3, 6 and 7: zero"
   pub zeros : (getD ws 3 0 ≡ 0) × (getD ws 6 0 ≡ 0) × (getD ws 7 0 ≡ 0)
   -- "a set is mined exactly when it is a nonempty intersection of persons' permission sets"
-  pub mined : (x : ℕ) → Listed (rowsAt c ws setsStart) x ↔ ((x ≢ 0) × Intersection (rowsAt n crew 0) n x)
+  pub mined : (x : ℕ) → Listed (rowsAt c ws 520) x ↔ ((x ≢ 0) × Intersection (rowsAt n crew 0) n x)
   -- "each distinct set once, numbered by growing value"
-  pub growing : Growing (rowsAt c ws setsStart)
+  pub growing : Growing (rowsAt c ws 520)
   -- "with all candidates standing"
   pub standing : (k : ℕ) → Stands ws k ↔ (k < c)
   -- "Roles, links ..": the rows are the building of the standing roles
@@ -156,27 +156,27 @@ pub record MinedFrom (n m : ℕ) (crew : List ℕ) (c : ℕ) (ws : List ℕ) : T
   pub is-sound : So (sound ws)
 
 pub record MiningConditions (n m : ℕ) (crew ws : List ℕ) (r : Mined) : Type 0 where
-  pub condition1 : Condition1 (miningFaults n m crew ws) (r .code) (r .candidates ∷ []) ws (r .words)
+  pub condition1 : Condition1 (miningRules n m crew ws) (r .code) (r .candidates ∷ []) ws (r .words)
   pub condition2 : r .code ≡ 0 → MinedFrom n m crew (r .candidates) (r .words)
 
 -- condition 1 of an editing call
-abbrev pub EditCondition1 : List Fault → List ℕ → Edited → Type 0
-EditCondition1 faults ws e = Condition1 faults (e .replied .code) (e .replied .changed ∷ e .replied .examined ∷ []) ws (e .words)
+abbrev pub EditCondition1 : List Rule → List ℕ → Edited → Type 0
+EditCondition1 rules ws e = Condition1 rules (e .replied .code) (e .replied .changed ∷ e .replied .examined ∷ []) ws (e .words)
 
 pub record StrikeConditions (ws : List ℕ) (k : ℕ) (e : Edited) : Type 0 where
-  pub condition1 : EditCondition1 (strikeFaults ws k) ws e
+  pub condition1 : EditCondition1 (strikeRules ws k) ws e
   -- "a role can be struck exactly when every grant it covers is covered by another standing role"
   pub condition2 : So (sound ws) → Stands ws k → (e .replied .code ≡ 0) ↔ Spared ws k
   -- "R loses k"
   pub loses : e .replied .code ≡ 0 → (j : ℕ) → Stands (e .words) j ↔ (Stands ws j × (j ≢ k))
 
 pub record RestoreConditions (ws : List ℕ) (k : ℕ) (e : Edited) : Type 0 where
-  pub condition1 : EditCondition1 (restoreFaults ws k) ws e
+  pub condition1 : EditCondition1 (restoreRules ws k) ws e
   -- "R gains k"
   pub gains : e .replied .code ≡ 0 → (j : ℕ) → Stands (e .words) j ↔ (Stands ws j ⊎ (j ≡ k))
 
 pub record EliminateConditions (ws : List ℕ) (w : Weights) (t : Tolerance) (e : Edited) : Type 0 where
-  pub condition1 : EditCondition1 (eliminateFaults ws w t) ws e
+  pub condition1 : EditCondition1 (eliminateRules ws w t) ws e
   -- "at most c(c + 1)/2"
   pub taken-up : e .replied .code ≡ 0 → 2 * e .replied .examined ≤ getD ws 2 0 * (getD ws 2 0 + 1)
   -- "When elimination ends, each standing role is not strikable or has b·q' ≥ a·q"
@@ -184,18 +184,18 @@ pub record EliminateConditions (ws : List ℕ) (w : Weights) (t : Tolerance) (e 
       → t .numerator * qualityOver (e .words) w (setAt 2 (e .words) 4) ≤ t .denominator * qualityOver (e .words) w (setAt 2 (e .words) 4 ∖ single k)
 
 pub record ReviewConditions (ws : List ℕ) (w : Weights) (e : Edited) : Type 0 where
-  pub condition1 : EditCondition1 (weightsFaults ws w) ws e
+  pub condition1 : EditCondition1 (weightsRules ws w) ws e
   -- "When a review ends, no single absent candidate would lower q."
   pub ended : e .replied .code ≡ 0 → (k : ℕ) → k < getD ws 2 0 → ¬ Stands (e .words) k
       → qualityOver (e .words) w (setAt 2 (e .words) 4) ≤ qualityOver (e .words) w (setAt 2 (e .words) 4 ∪ single k)
 
 pub record QualityConditions (ws : List ℕ) (w : Weights) (t : Told) : Type 0 where
-  pub condition1 : Condition1 (weightsFaults ws w) (t .code) (t .value ∷ []) ws ws
+  pub condition1 : Condition1 (weightsRules ws w) (t .code) (t .value ∷ []) ws ws
   -- "w1·(roles) + w2·(direct members) + w3·(direct permissions) + w4·(links), counted over the building" of the standing roles
   pub condition2 : t .code ≡ 0 → t .value ≡ qualityOver ws w (setAt 2 ws 4)
 
 pub record MayConditions (ws : List ℕ) (u p : ℕ) (t : Told) : Type 0 where
-  pub condition1 : Condition1 (mayFaults ws u p) (t .code) (t .value ∷ []) ws ws
+  pub condition1 : Condition1 (mayRules ws u p) (t .code) (t .value ∷ []) ws ws
   pub yes-or-no : t .code ≡ 0 → OneOf (t .value) (0 ∷ 1 ∷ [])
   -- "a person is authorised for an action exactly when the crew list says so"
   pub condition2 : t .code ≡ 0 → (t .value ≡ 1) ↔ So (has (crewRow ws u) p)

@@ -9,14 +9,15 @@ use lib.ListN.{getD}
 use Rattle.sets.specs.Sets.{has}
 use Rattle.model.specs.Lists.{setAt}
 use Rattle.model.specs.Chains.{link, Member, Holds}
-use Rattle.model.specs.Record.{crewStart, setsStart, roleRowsOf}
+use Rattle.model.specs.Record.{roleRowsOf}
 
--- the crew row of user u, and S(k)
+-- "8 + 4u: crew row of u, 4 words"
 abbrev pub crewRow : List ℕ → ℕ → ℕ
-crewRow ws u = setAt 4 ws (crewStart + 4 * u)
+crewRow ws u = setAt 4 ws (8 + 4 * u)
 
+-- "520 + 4k: permission set S(k), 4 words"
 abbrev pub roleSet : List ℕ → ℕ → ℕ
-roleSet ws k = setAt 4 ws (setsStart + 4 * k)
+roleSet ws k = setAt 4 ws (520 + 4 * k)
 
 -- role k stands: "A role's standing mark is its bit in words 4 and 5."
 abbrev pub Stands : List ℕ → ℕ → Type 0
