@@ -4,7 +4,7 @@ use mathlib.Core.Path.{_≡_, refl, sym, _∙_, ap}
 use mathlib.Core.Bool.{Bool, So}
 use mathlib.Core.Logic.{_↔_, _≢_, _⊎_, ⊎-elim}
 use mathlib.Core.List.{List}
-use Prim.Native.Nat.{ℕ, zero, suc, _+_, _*_, _≤_, _<_}
+use Prim.Native.Nat.{ℕ, zero, suc, _+_, _-_, _*_, _≤_, _<_}
 use native.Mathlib.Nat.{lt-irrefl}
 use native.Mathlib.Omega.{arith}
 use Rattle.sets.specs.Truth.{_and_, _or_, any}
@@ -22,30 +22,44 @@ use Rattle.model.proofs.Changes.{juniors-left, permissions-left, member
 use Rattle.model.proofs.Steps.{limits-ordered, limits-now}
 use Rattle.model.proofs.Record.{by-region, word-head, word-crew, word-set, word-permissions, word-members, word-juniors, built-word, read-standing}
 
-inside-of : (w at j : ℕ) → j < w → So (inside w at (at + j))
+inside-iff : (w at i : ℕ) → So (inside w at i) ↔ ((j : ℕ) × (j < w) × (i ≡ at + j))
 unfolding inside
-inside-of w at j h =
-    let a : at ≤ at + j = omega arith in
-    let b : at + j < at + w = omega arith in
-    simp reflect (a, b)
+inside-iff w at i = (
+  λ h. let a : (at ≤ i) × (i < at + w) = simp reflect at h in (i - at, omega arith, omega arith),
+  λ x.
+      let l = x .1 in
+      let e = x .2 in
+      let a : at ≤ i = omega arith in
+      let b : i < at + w = omega arith in
+      simp reflect (a, b),
+)
 
--- word i of a row is one of its three entries
-in-row : (r i : ℕ) → So (inside 4 (permissionsStart + 4 * r) i) ⊎ (So (inside 2 (membersStart + 2 * r) i) ⊎ So (inside 2 (juniorsStart + 2 * r) i)) → So (rowWord r i)
+-- "1,032 + 4k: direct permissions, 4 words", "1,544 + 2k: direct members, 2 words", "1,800 + 2k: immediate juniors, 2 words"
+pub rowWord-iff : (k i : ℕ)
+    → So (rowWord k i)
+    ↔ (((j : ℕ) × (j < 4) × (i ≡ 1032 + 4 * k + j)) ⊎ (((j : ℕ) × (j < 2) × (i ≡ 1544 + 2 * k + j)) ⊎ ((j : ℕ) × (j < 2) × (i ≡ 1800 + 2 * k + j))))
 unfolding rowWord
-in-row r i h =
-    let a = inside 4 (permissionsStart + 4 * r) i in
-    let b = inside 2 (membersStart + 2 * r) i in
-    or-iff (a or b) (inside 2 (juniorsStart + 2 * r) i) .1
-    (⊎-elim (λ x. _⊎_.inl (or-iff a b .1 (_⊎_.inl x))) (⊎-elim (λ x. _⊎_.inl (or-iff a b .1 (_⊎_.inr x))) (λ x. _⊎_.inr x)) h)
+rowWord-iff k i =
+    let a = inside-iff 4 (1032 + 4 * k) i in
+    let b = inside-iff 2 (1544 + 2 * k) i in
+    let c = inside-iff 2 (1800 + 2 * k) i in
+    let x = inside 4 (1032 + 4 * k) i in
+    let y = inside 2 (1544 + 2 * k) i in
+    let z = inside 2 (1800 + 2 * k) i in (
+      λ h. ⊎-elim (λ s. ⊎-elim (λ t. _⊎_.inl (a .0 t)) (λ t. _⊎_.inr (_⊎_.inl (b .0 t))) (or-iff x y .0 s)) (λ t. _⊎_.inr (_⊎_.inr (c .0 t))) (or-iff (x or y) z .0 h),
+      λ h.
+          or-iff (x or y) z .1
+          (⊎-elim (λ t. _⊎_.inl (or-iff x y .1 (_⊎_.inl (a .1 t)))) (⊎-elim (λ t. _⊎_.inl (or-iff x y .1 (_⊎_.inr (b .1 t)))) (λ t. _⊎_.inr (c .1 t))) h),
+    )
 
 row-permissions : (r j : ℕ) → j < 4 → So (rowWord r (permissionsStart + 4 * r + j))
-row-permissions r j h = in-row r (permissionsStart + 4 * r + j) (_⊎_.inl (inside-of 4 (permissionsStart + 4 * r) j h))
+row-permissions r j h = rowWord-iff r (permissionsStart + 4 * r + j) .1 (_⊎_.inl (j, h, refl))
 
 row-members : (r j : ℕ) → j < 2 → So (rowWord r (membersStart + 2 * r + j))
-row-members r j h = in-row r (membersStart + 2 * r + j) (_⊎_.inr (_⊎_.inl (inside-of 2 (membersStart + 2 * r) j h)))
+row-members r j h = rowWord-iff r (membersStart + 2 * r + j) .1 (_⊎_.inr (_⊎_.inl (j, h, refl)))
 
 row-juniors : (r j : ℕ) → j < 2 → So (rowWord r (juniorsStart + 2 * r + j))
-row-juniors r j h = in-row r (juniorsStart + 2 * r + j) (_⊎_.inr (_⊎_.inr (inside-of 2 (juniorsStart + 2 * r) j h)))
+row-juniors r j h = rowWord-iff r (juniorsStart + 2 * r + j) .1 (_⊎_.inr (_⊎_.inr (j, h, refl)))
 
 pub concerned-iff : (ρ : Roles) (R s r : ℕ)
     → So (concerned ρ R s r)

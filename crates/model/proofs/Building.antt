@@ -7,20 +7,19 @@ use mathlib.Core.Logic.{_↔_, _≢_, _⊎_, ⊎-elim}
 use Prim.Native.Nat.{ℕ, zero, suc, _+_, _-_, _<_}
 use native.Mathlib.Nat.{lt-irrefl}
 use native.Mathlib.Omega.{arith}
-use lib.Dec.{eqb}
 use lib.ListN.{getD}
-use Rattle.sets.specs.Truth.{_and_, isnt}
+use Rattle.sets.specs.Truth.{_and_}
 use Rattle.sets.specs.Sets.{has}
-use Rattle.sets.proofs.Truth.{and-iff, isnt-iff, eqb-iff, find}
+use Rattle.sets.proofs.Truth.{and-iff, find}
 use Rattle.sets.proofs.Items.{item-below, empty-of}
 use Rattle.sets.proofs.Order.{subset-iff, subset-trans, proper-subset, proper-trans}
 use Rattle.model.specs.Hierarchy.{Roles, candidateCount, permissionSet, authorisedUsers, senior, immediatelySenior, immediateJuniors, directPermissions, directMembers, building}
-use Rattle.model.specs.Chains.{link, Chain, linksBut, Reaches, may}
+use Rattle.model.specs.Chains.{link, Chain, linksBut, Reaches, may, Member, Holds}
 use Rattle.model.specs.Chains.Chain.{one, more}
 use Rattle.model.specs.Coverage.{grant, covered, allCovered}
 use Rattle.model.proofs.Direct.{direct-absent, Side, last-direct}
 use Rattle.model.proofs.Reading.{Ordered, user-iff, covers-iff, covered-iff, allCovered-iff, senior-iff, immediate-iff, junior-iff, permission-iff, member-iff}
-use Rattle.model.proofs.Chains.{RoleRowsBelow, chain-append, may-iff}
+use Rattle.model.proofs.Chains.{RoleRowsBelow, linksBut-iff, chain-append, may-iff}
 
 -- "Roles outside R have zero rows"
 module _ (ρ : Roles) (R k : ℕ) (absent : So (has R k) → ⊥) where
@@ -114,21 +113,15 @@ module _ (ρ : Roles) (R : ℕ) (o : Ordered ρ R) where
   pub no-return : (k : ℕ) → Chain (link (building ρ R)) k k → ⊥
   no-return k d = lt-irrefl k (senior-lower k k (chain-senior (link (building ρ R)) (λ _ _ h. h) d))
 
-  other-link : (x y k j : ℕ) → So (linksBut (link (building ρ R)) x y k j) → So (link (building ρ R) k j) × ((k ≡ x) × (j ≡ y) → ⊥)
-  unfolding linksBut
-  other-link x y k j h =
-      let a = and-iff (link (building ρ R) k j) (isnt (eqb k x and eqb j y)) .0 h in
-      (a .0, λ e. isnt-iff (eqb k x and eqb j y) .0 (a .1) (and-iff (eqb k x) (eqb j y) .1 (eqb-iff k x .1 (e .0), eqb-iff j y .1 (e .1))))
-
   -- "no link could be replaced by a chain"
   pub no-replacement : (x y : ℕ) → So (link (building ρ R) x y) → Chain (linksBut (link (building ρ R)) x y) x y → ⊥
   no-replacement x y l d = go x y refl refl d
     where
       sub : (k j : ℕ) → So (linksBut (link (building ρ R)) x y k j) → So (link (building ρ R) k j)
-      sub k j h = other-link x y k j h .0
+      sub k j h = linksBut-iff (link (building ρ R)) x y k j .0 h .0
 
       go : (k j : ℕ) → k ≡ x → j ≡ y → Chain (linksBut (link (building ρ R)) x y) k j → ⊥
-      go k j ek ej (one h) = other-link x y k j h .1 (ek, ej)
+      go k j ek ej (one h) = linksBut-iff (link (building ρ R)) x y k j .0 h .1 (ek, ej)
       go k j ek ej (more {i = i} h d) =
           let a : So (senior ρ R x i) = rw ek at (link-senior k i (sub k i h)) in
           let b : So (senior ρ R i y) = rw ej at (chain-senior (linksBut (link (building ρ R)) x y) sub d) in
@@ -178,6 +171,32 @@ module _ (ρ : Roles) (R : ℕ) (o : Ordered ρ R) where
       → (j : ℕ) × So (has (directPermissions ρ R j) p) × ((j ≡ k) ⊎ So (senior ρ R k j))
   unfolding directPermissions
   bottommost = last-direct (ρ .permissions) (candidateCount ρ) R (λ j k. senior ρ R k j) (permissionSet ρ) juniors-side
+
+  -- what a chain joins is senior and junior
+  reaches-senior : (k j : ℕ) → Reaches (link (building ρ R)) k j → (k ≡ j) ⊎ So (senior ρ R k j)
+  reaches-senior k j r = ⊎-elim (λ e. _⊎_.inl e) (λ d. _⊎_.inr (chain-senior (link (building ρ R)) (λ _ _ h. h) d)) r
+
+  -- the direct members of k and of the roles above it are A(k)
+  pub members-iff : (k u : ℕ) → So (has R k) → Member (building ρ R) k u ↔ So (has (authorisedUsers ρ k) u)
+  unfolding building
+  members-iff k u h = (
+    λ m.
+        let a = member-iff ρ R (m .role) u .0 (m .direct) .2 in
+        ⊎-elim (λ (e : m .role ≡ k). rw e at a) (λ s. senior-user (m .role) k u s a) (reaches-senior (m .role) k (m .above)),
+    λ t. let i = topmost k u h t in record { role = i .0; above = senior-reaches (i .0) k (i .2); direct = i .1 },
+  )
+
+  -- the direct permissions of k and of the roles below it are S(k)
+  pub holds-iff : (k p : ℕ) → So (has R k) → Holds (building ρ R) k p ↔ ((p < ρ .permissions) × So (has (permissionSet ρ k) p))
+  unfolding building
+  holds-iff k p h = (
+    λ d.
+        let a = permission-iff ρ R (d .role) p .0 (d .direct) in
+        (a .0, ⊎-elim (λ (e : k ≡ d .role). rw e (a .2)) (λ s. senior-permission k (d .role) p s (a .2)) (reaches-senior k (d .role) (d .below))),
+    λ t.
+        let j = bottommost k p (t .0) h (t .1) in
+        record { role = j .0; below = senior-reaches k (j .0) (⊎-elim (λ e. _⊎_.inl (sym e)) (λ s. _⊎_.inr s) (j .2)); direct = j .1 },
+  )
 
   -- a direct member of a role is authorised for all that the role holds: "authorised exactly when" some standing role covers the grant
   pub may-covered : (u p : ℕ) → p < ρ .permissions → So (may (candidateCount ρ) (building ρ R) u p) ↔ So (covered ρ R u p)

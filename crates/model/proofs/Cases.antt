@@ -1,14 +1,21 @@
--- The starred cases of document 01, one theorem about the definitions: "Rows 3, 6, 7, m = 3, weights 1."
+-- The starred cases of document 01, one theorem about the definitions: "Rows 3, 6, 7, m = 3, weights 1." Beside them a table of refusals.
 -- Assumes nothing.
 use mathlib.Core.Path.{_≡_, refl}
+use mathlib.Core.Bool.{Bool, true, false, So}
 use mathlib.Core.List.{List, [], _∷_}
 use Prim.Native.Nat.{ℕ}
+use lib.Dec.{eqb}
+use lib.ListN.{length}
+use Rattle.sets.specs.Truth.{_and_, isnt, if_then_else_}
 use Rattle.model.specs.Candidates.{candidates}
 use Rattle.model.specs.Hierarchy.{Roles, immediateJuniors, directPermissions, directMembers}
 use Rattle.model.specs.Quality.{Weights, quality, Tolerance}
 use Rattle.model.specs.Lists.{tabulate}
 use Rattle.model.specs.State.{State, rolesOf, fresh}
-use Rattle.model.specs.Machine.{reply, stateAfter, repliesTo}
+use Rattle.model.specs.Record.{recordLength, sound}
+use Rattle.model.specs.Refusals.{_unless_, _orElse_, lengthRefusal, soundnessRefusal, pairRefusal}
+use Rattle.model.specs.Calls.{unfit, miningRefusal, edit, told, qualityOf, mayOf}
+use Rattle.model.specs.Machine.{Call, reply, refusal, stateAfter, repliesTo}
 use Rattle.model.specs.Machine.Call.{strike, restore, eliminate, review}
 use Rattle.model.proofs.Everything.{everything}
 
@@ -58,3 +65,99 @@ starred =
       refusals = refl;
       eliminates-and-reviews = refl;
     }
+
+-- ---- the refusals: their numbers, their order in each call, and the edges of each range
+
+-- the three crew rows as words
+abbrev crew : List ℕ
+crew = 3 ∷ 0 ∷ 0 ∷ 0 ∷ 6 ∷ 0 ∷ 0 ∷ 0 ∷ 7 ∷ 0 ∷ 0 ∷ 0 ∷ []
+
+abbrev weights : ℕ → Weights
+weights w = record { perRole = 1; perMember = 1; perPermission = 1; perLink = w }
+
+abbrev eliminates : ℕ → ℕ → ℕ → Call
+eliminates w a b = eliminate (weights w) (record { numerator = a; denominator = b })
+
+-- role 0 was struck
+abbrev less : State
+less = stateAfter start (strike 0 ∷ [])
+
+-- each line of a table: an answer, and the paper's number
+pub allAgree : List (ℕ × ℕ) → Bool
+allAgree [] = true
+allAgree (line ∷ lines) = eqb (line .0) (line .1) and allAgree lines
+
+-- on no words at all, 1 comes before all others
+pub refusals : List (ℕ × ℕ)
+refusals =
+    (miningRefusal 0 3 [] [], 1)
+    ∷ (edit [] (strike 4) .replied .code, 1)
+    ∷ (edit [] (eliminates 1001 1 1) .replied .code, 1)
+    ∷ (qualityOf [] (weights 1001) .code, 1)
+    ∷ (mayOf [] 3 3 .code, 1)
+    -- strike: 6, 7, 8
+    ∷ (refusal start (strike 4), 6)
+    ∷ (refusal less (strike 0), 7)
+    ∷ (refusal start (strike 1), 8)
+    ∷ (refusal start (strike 0), 0)
+    -- restore: 6, 7
+    ∷ (refusal start (restore 4), 6)
+    ∷ (refusal start (restore 0), 7)
+    ∷ (refusal less (restore 0), 0)
+    -- weights to 1,000; b from 1 to 1,000, a from b to 2b
+    ∷ (refusal start (eliminates 1001 1 1), 9)
+    ∷ (refusal start (eliminates 1000 0 0), 9)
+    ∷ (refusal start (eliminates 1000 1001 1001), 9)
+    ∷ (refusal start (eliminates 1000 999 1000), 9)
+    ∷ (refusal start (eliminates 1000 2001 1000), 9)
+    ∷ (refusal start (eliminates 1000 1000 1000), 0)
+    ∷ (refusal start (eliminates 1000 2000 1000), 0)
+    ∷ (refusal start (review (weights 1001)), 9)
+    ∷ (refusal start (review (weights 1000)), 0)
+    -- u below n and p below m
+    ∷ (pairRefusal 3 4 3 3, 6)
+    ∷ (pairRefusal 3 4 2 4, 6)
+    ∷ (pairRefusal 3 4 2 3, 0)
+    -- zero beside a number, and a value beside 0
+    ∷ (told 5 7 .code, 5)
+    ∷ (told 5 7 .value, 0)
+    ∷ (told 0 7 .code, 0)
+    ∷ (told 0 7 .value, 7)
+    ∷ []
+
+pub refusals-agree : So (allAgree refusals)
+unfolding everything refusals allAgree
+refusals-agree = refl
+
+module _ (ws : List ℕ) (whole : length ws ≡ recordLength) where
+  -- mining into 2,056 words, whatever they hold: 2, 3
+  pub mining-refusals : List (ℕ × ℕ)
+  mining-refusals =
+      (miningRefusal 0 3 crew ws, 2)
+      ∷ (miningRefusal 129 3 crew ws, 2)
+      ∷ (miningRefusal 3 0 crew ws, 2)
+      ∷ (miningRefusal 3 257 crew ws, 2)
+      ∷ (miningRefusal 2 3 crew ws, 3)
+      ∷ (miningRefusal 3 2 crew ws, 3)
+      ∷ (miningRefusal 3 3 crew ws, 0)
+      ∷ []
+
+  pub mining-agrees : So (allAgree mining-refusals)
+  unfolding everything mining-refusals allAgree
+  mining-agrees = rw whole refl
+
+  -- 2,056 words that are not sound: 5 before a call's own numbers
+  module _ (bad : sound ws ≡ false) where
+    pub unsound-refusals : List (ℕ × ℕ)
+    unsound-refusals =
+        (edit ws (strike 4) .replied .code, 5)
+        ∷ (edit ws (restore 4) .replied .code, 5)
+        ∷ (edit ws (eliminates 1001 1 1) .replied .code, 5)
+        ∷ (edit ws (review (weights 1001)) .replied .code, 5)
+        ∷ (qualityOf ws (weights 1001) .code, 5)
+        ∷ (mayOf ws 900 900 .code, 5)
+        ∷ []
+
+    pub unsound-agrees : So (allAgree unsound-refusals)
+    unfolding edit qualityOf mayOf told unfit lengthRefusal soundnessRefusal _unless_ _orElse_ _and_ isnt if_then_else_ reply unsound-refusals allAgree
+    unsound-agrees = rw (whole, bad) refl

@@ -9,13 +9,21 @@ use native.Mathlib.Omega.{arith}
 use lib.Count.{ones, ones-le}
 use Rattle.sets.specs.Truth.{_and_, any}
 use Rattle.sets.specs.Sets.{has, _∪_, collect}
-use Rattle.sets.proofs.Truth.{and-iff, any-iff, equal-or}
+use Rattle.sets.proofs.Truth.{and-iff, any-iff, equal-or, reflect}
 use Rattle.sets.proofs.Items.{item-below}
 use Rattle.sets.proofs.Order.{∪-iff, ∪-lt, collect-iff, collect-lt, subset-iff, proper-iff}
 use Rattle.sets.proofs.Counts.{ones-proper}
 use Rattle.model.specs.Hierarchy.{RoleRows}
-use Rattle.model.specs.Chains.{link, Chain, Reaches, onward, follow, reached, directRoles, rolesReached, may, Authorised}
+use Rattle.model.specs.Chains.{link, Chain, linksBut, Reaches, onward, follow, reached, directRoles, rolesReached, may, Authorised}
 use Rattle.model.specs.Chains.Chain.{one, more}
+
+-- the links but one: every other link is among them, and that one is not
+pub linksBut-iff : (joined : ℕ → ℕ → Bool) (x y k j : ℕ) → So (linksBut joined x y k j) ↔ (So (joined k j) × ¬ ((k ≡ x) × (j ≡ y)))
+unfolding linksBut
+linksBut-iff joined x y k j = (
+  λ h. let a : So (joined k j) × ¬ ((k ≡ x) × (j ≡ y)) = simp reflect at h in a,
+  λ f. simp reflect f,
+)
 
 module _ (joined : ℕ → ℕ → Bool) where
   pub chain-append : {k i j : ℕ} → Chain joined k i → Chain joined i j → Chain joined k j

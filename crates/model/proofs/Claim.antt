@@ -2,32 +2,36 @@
 -- Assumes nothing.
 use mathlib.Core.Path.{_≡_, refl, sym, _∙_, ap, ap₂, subst}
 use mathlib.Core.Bool.{So}
-use mathlib.Core.Logic.{_↔_, _≢_}
-use mathlib.Core.List.{List, [], _∷_, _++_}
+use mathlib.Core.Logic.{_↔_, _≢_, ⊎-elim}
+use mathlib.Core.List.{List, [], _∷_, map}
 use Prim.Native.Nat.{ℕ, _<_}
 use lib.Dec.{eqb}
-use lib.ListN.{getD}
-use Rattle.sets.specs.Truth.{isnt, if_then_else_}
+use lib.ListN.{length, getD}
+use Rattle.sets.specs.Truth.{if_then_else_}
 use Rattle.sets.specs.Sets.{has, _∪_, _∖_, single}
-use Rattle.sets.proofs.Truth.{by-test, So-not, not-So, isnt-iff, eqb-iff, if-true, if-false}
+use Rattle.sets.proofs.Truth.{by-test, So-not, eqb-iff, if-true, if-false}
 use Rattle.sets.proofs.Order.{with-without}
+use Rattle.model.specs.Lists.{rowsAt}
 use Rattle.model.specs.Hierarchy.{candidateCount, building}
 use Rattle.model.specs.Chains.{link, Chain, linksBut, may, Authorised}
 use Rattle.model.specs.Coverage.{grant}
-use Rattle.model.specs.State.{State, rolesOf, standingNow}
+use Rattle.model.specs.State.{State, rolesOf, standingNow, fresh}
 use Rattle.model.specs.Record.{built, stateOf, roleRowsOf, sound}
 use Rattle.model.specs.Altered.{Altered}
 use Rattle.model.specs.Machine.{Call, Reply, Outcome, refusal, accepted, step, stateAfter, repliesTo}
-use Rattle.model.specs.Machine.Call.{strike, restore}
-use Rattle.model.specs.Calls.{unfit, Edited, edit}
-use Rattle.model.specs.Claim.{wordsAfter, repliesGiven, Kept}
+use Rattle.model.specs.Machine.Call.{strike, restore, eliminate, review}
+use Rattle.model.specs.Quality.{Weights, Tolerance}
+use Rattle.model.specs.Calls.{Edited, edit, miningRefusal, mine}
+use Rattle.model.specs.Claim.{wordsAfter, repliesGiven, Accepted, StrikeAltered, RestoreAltered, OneByOne, Condition3}
 use Rattle.model.proofs.Chains.{may-iff}
 use Rattle.model.proofs.Reading.{Ordered}
 use Rattle.model.proofs.Building.{building-below, granted-may, may-possible, no-return, no-replacement}
 use Rattle.model.proofs.Record.{sound-iff, sound-built, state-back, rows-back, built-sound}
-use Rattle.model.proofs.Refusals.{unfit-iff, restore-iff}
+use Rattle.model.proofs.Refusals.{unfit-iff, restore-iff, refusal-number}
+use Rattle.model.proofs.Calls.{mine-code, mine-accepted, edit-fits}
+use Rattle.model.proofs.Notions.{built-rows, standard-held}
 use Rattle.model.proofs.Altered.{strike-altered, restore-altered}
-use Rattle.model.proofs.Steps.{state-append, limits-ordered, roles-now, standing-now, now-now, now-same, step-accepted, step-refused, step-code, Fit, step-fit, after-fit, after-rows}
+use Rattle.model.proofs.Steps.{limits-ordered, roles-now, standing-now, now-now, now-same, step-accepted, step-refused, step-code, Fit, step-fit, after-fit, after-rows, AllAccepted, Made, elimination-made, review-made, mining-fit}
 
 -- a sound record's state is within the limits and covers each grant, and conversely
 pub sound-fit : (ws : List ℕ) → So (sound ws) → Fit (stateOf ws)
@@ -40,13 +44,13 @@ fit-sound st f = built-sound st (f .limits) (f .covers-all)
 module _ (ws : List ℕ) (h : So (sound ws)) (call : Call) where
   edit-sound : edit ws call
       ≡ record { replied = step (stateOf ws) call .replied; words = if eqb (step (stateOf ws) call .replied .code) 0 then built (step (stateOf ws) call .state) else ws }
-  unfolding edit
-  edit-sound =
-      let t = eqb (unfit ws) 0 in
-      if-false (isnt t) _ _ (not-So (isnt t) (λ x. isnt-iff t .0 x (eqb-iff (unfit ws) 0 .1 (unfit-iff ws .1 h))))
+  edit-sound = edit-fits ws call (unfit-iff ws .1 h)
 
   pub edit-replied : edit ws call .replied ≡ step (stateOf ws) call .replied
   edit-replied = ap (λ (e : Edited). e .replied) edit-sound
+
+  pub code-is : edit ws call .replied .code ≡ refusal (stateOf ws) call
+  code-is = ap (λ (a : Reply). a .code) edit-replied ∙ step-code (stateOf ws) call
 
   pub edit-words : edit ws call .words ≡ built (step (stateOf ws) call .state)
   edit-words =
@@ -84,10 +88,8 @@ after-answers ws h (call ∷ calls) =
     ap₂ (λ (a : Reply) (l : List Reply). a ∷ l) (edit-replied ws h call)
     (after-answers (edit ws call .words) (edit-fit ws h call) calls ∙ ap (λ (st : State). repliesTo st calls) (edit-state ws h call))
 
-after-append : (ws : List ℕ) (calls : List Call) (call : Call) → wordsAfter ws (calls ++ (call ∷ [])) ≡ edit (wordsAfter ws calls) call .words
-unfolding wordsAfter
-after-append ws [] call = refl
-after-append ws (first ∷ calls) call = after-append (edit ws first .words) calls call
+pub after-words : (ws : List ℕ) → So (sound ws) → (calls : List Call) → wordsAfter ws calls ≡ built (stateAfter (stateOf ws) calls)
+after-words ws h calls = sound-built (wordsAfter ws calls) (after-sound ws h calls) ∙ ap built (after-state ws h calls)
 
 -- ---- authorised, chains and links, read off a sound record's own words
 
@@ -143,14 +145,71 @@ restore-words st k f e =
     restore-altered full (single k) (f' .limits) in
     rw s (rw (roles-now st (st .standing ∪ single k), back) at r)
 
+-- ---- one call on a sound record
+
+-- a run of calls on single roles, all accepted
+module _ (call : ℕ → Call) (Altering : List ℕ → ℕ → Type 0)
+    (altering : (ws : List ℕ) → So (sound ws) → (k : ℕ) → refusal (stateOf ws) (call k) ≡ 0 → Altering ws k) where
+  one-by-one : (ws : List ℕ) → So (sound ws) → (roles : List ℕ) → AllAccepted (stateOf ws) (map call roles)
+      → OneByOne call Altering ws (length roles) (wordsAfter ws (map call roles))
+  unfolding wordsAfter
+  one-by-one ws h [] a = OneByOne.none ws
+  one-by-one ws h (k ∷ roles) a =
+      let next = edit ws (call k) .words in
+      OneByOne.next ws k (length roles) (wordsAfter next (map call roles)) (code-is ws h (call k) ∙ a .0) (altering ws h k (a .0))
+      (one-by-one next (edit-fit ws h (call k)) roles (rw (edit-state ws h (call k)) (a .1)))
+
+  -- such a run that ends in the state that a call leaves
+  made-altering : (ws : List ℕ) → So (sound ws) → (n : ℕ) (run : Call) → Made (stateOf ws) n call (step (stateOf ws) run .state)
+      → OneByOne call Altering ws n (edit ws run .words)
+  made-altering ws h n run m =
+      let calls = map call (m .roles) in
+      let e : wordsAfter ws calls ≡ edit ws run .words =
+      after-words ws h calls ∙ ap built (m .state-then) ∙ sym (edit-words ws h run) in
+      subst (λ (l : List ℕ). OneByOne call Altering ws n l) e
+      (subst (λ (x : ℕ). OneByOne call Altering ws x (wordsAfter ws calls)) (m .many) (one-by-one ws h (m .roles) (m .all-accepted)))
+
+module _ (ws : List ℕ) (h : So (sound ws)) where
+  strike-only : (k : ℕ) → refusal (stateOf ws) (strike k) ≡ 0 → StrikeAltered ws k
+  strike-only k e =
+      let st = stateOf ws in
+      rw (edit-words ws h (strike k))
+      (subst (λ (l : List ℕ). Altered (rolesOf st) (st .standing) (single k) l (built (step st (strike k) .state))) (sym (sound-built ws h))
+      (strike-words st k (sound-fit ws h) e))
+
+  restore-only : (k : ℕ) → refusal (stateOf ws) (restore k) ≡ 0 → RestoreAltered ws k
+  restore-only k e =
+      let st = stateOf ws in
+      rw (edit-state ws h (restore k), edit-words ws h (restore k))
+      (subst (λ (l : List ℕ). Altered (rolesOf st) (step st (restore k) .state .standing) (single k) l (built (step st (restore k) .state))) (sym (sound-built ws h))
+      (restore-words st k (sound-fit ws h) e))
+
+  refused-only : (call : Call) → refusal (stateOf ws) call ≢ 0 → edit ws call .words ≡ ws
+  refused-only call d = edit-words ws h call ∙ ap (λ (o : Outcome). built (o .state)) (step-refused (stateOf ws) call d) ∙ sym (sound-built ws h)
+
+module _ (ws : List ℕ) (h : So (sound ws)) where
+  eliminate-only : (w : Weights) (t : Tolerance) → refusal (stateOf ws) (eliminate w t) ≡ 0
+      → OneByOne strike StrikeAltered ws (edit ws (eliminate w t) .replied .changed) (edit ws (eliminate w t) .words)
+  eliminate-only w t e =
+      rw (edit-replied ws h (eliminate w t))
+      (made-altering strike StrikeAltered strike-only ws h (step (stateOf ws) (eliminate w t) .replied .changed) (eliminate w t)
+      (elimination-made (stateOf ws) w t (sound-fit ws h .limits) e))
+
+  review-only : (w : Weights) → refusal (stateOf ws) (review w) ≡ 0
+      → OneByOne restore RestoreAltered ws (edit ws (review w) .replied .changed) (edit ws (review w) .words)
+  review-only w e =
+      rw (edit-replied ws h (review w))
+      (made-altering restore RestoreAltered restore-only ws h (step (stateOf ws) (review w) .replied .changed) (review w)
+      (review-made (stateOf ws) w (sound-fit ws h .limits) e))
+
 -- ---- the claim
 
-pub claim : (ws : List ℕ) → So (sound ws) → (calls : List Call) → Kept ws calls
+pub claim : (ws : List ℕ) → So (sound ws) → (calls : List Call) → Condition3 (stateOf ws) ws calls
 claim ws h calls =
     let st = stateOf ws in
     let end = stateAfter st calls in
     let f = after-fit st calls (sound-fit ws h) in
-    let words : wordsAfter ws calls ≡ built end = sound-built (wordsAfter ws calls) (after-sound ws h calls) ∙ ap built (after-state ws h calls) in
+    let words = after-words ws h calls in
     let same = after-rows st calls in
     record {
       standing = after-state ws h calls;
@@ -160,38 +219,36 @@ claim ws h calls =
           rw words
           (subst (λ (rows : List ℕ). Authorised (roleRowsOf (built end)) u p ↔ So (has (getD rows u 0) p)) (same .2)
           (words-authorised end f u p (rw (same .0) lu) (rw (same .1) lp)));
+      rows = built-rows (wordsAfter ws calls) (after-sound ws h calls);
+      standard = standard-held (wordsAfter ws calls) (after-sound ws h calls);
       no-return = λ k. rw words (words-no-return end f k);
       no-replacement = λ x y. rw words (words-no-replacement end f x y);
-      strikes-altered = λ before rest k _ e. prefix-strike before k e;
-      restorations-altered = λ before rest k _ e. prefix-restore before k e;
+      strikes-altered = λ before rest call _ k e a. strike-only (wordsAfter ws before) (after-sound ws h before) k (passed before call (strike k) e a);
+      restorations-altered = λ before rest call _ k e a. restore-only (wordsAfter ws before) (after-sound ws h before) k (passed before call (restore k) e a);
+      eliminations-altered = λ before rest call _ w t e a.
+          rw e (eliminate-only (wordsAfter ws before) (after-sound ws h before) w t (passed before call (eliminate w t) e a));
+      reviews-altered = λ before rest call _ w e a.
+          rw e (review-only (wordsAfter ws before) (after-sound ws h before) w (passed before call (review w) e a));
+      refused = λ before rest call _ d.
+          let lent = wordsAfter ws before in
+          let c = code-then before call in
+          let no : refusal (stateOf lent) call ≢ 0 = λ e. d (c ∙ e) in
+          (refused-only lent (after-sound ws h before) call no, rw c (⊎-elim (λ e. absurd (no e)) (λ o. o) (refusal-number (stateOf lent) call)));
     }
   where
-    at-prefix : (before : List Call) → wordsAfter ws before ≡ built (stateAfter (stateOf ws) before)
-    at-prefix before = sound-built (wordsAfter ws before) (after-sound ws h before) ∙ ap built (after-state ws h before)
+    code-then : (before : List Call) (call : Call) → edit (wordsAfter ws before) call .replied .code ≡ refusal (stateOf (wordsAfter ws before)) call
+    code-then before call = code-is (wordsAfter ws before) (after-sound ws h before) call
 
-    next-words : (before : List Call) (call : Call)
-        → wordsAfter ws (before ++ (call ∷ [])) ≡ built (step (stateAfter (stateOf ws) before) call .state)
-    next-words before call =
-        at-prefix (before ++ (call ∷ [])) ∙ ap built (state-append (stateOf ws) before call)
+    passed : (before : List Call) (call same : Call) → call ≡ same → Accepted (wordsAfter ws before) call → refusal (stateOf (wordsAfter ws before)) same ≡ 0
+    passed before call same e a = sym (code-then before same) ∙ (rw e at a)
 
-    code-of : (before : List Call) (call : Call) → edit (wordsAfter ws before) call .replied .code ≡ 0 → refusal (stateAfter (stateOf ws) before) call ≡ 0
-    code-of before call e =
-        rw (after-state ws h before) at
-        (sym (step-code (stateOf (wordsAfter ws before)) call)
-        ∙ ap (λ (a : Reply). a .code) (sym (edit-replied (wordsAfter ws before) (after-sound ws h before) call)) ∙ e)
+-- from the record built afresh from a state
+pub built-claim : (st : State) → Fit st → (calls : List Call) → Condition3 st (built st) calls
+built-claim st f calls = subst (λ (x : State). Condition3 x (built st) calls) (state-back st (f .limits)) (claim (built st) (fit-sound st f) calls)
 
-    prefix-strike : (before : List Call) (k : ℕ) → edit (wordsAfter ws before) (strike k) .replied .code ≡ 0
-        → Altered (rolesOf (stateAfter (stateOf ws) before)) (stateAfter (stateOf ws) before .standing) (single k)
-        (wordsAfter ws before) (wordsAfter ws (before ++ (strike k ∷ [])))
-    prefix-strike before k e =
-        let st = stateAfter (stateOf ws) before in
-        rw (at-prefix before, next-words before (strike k))
-        (strike-words st k (after-fit (stateOf ws) before (sound-fit ws h)) (code-of before (strike k) e))
-
-    prefix-restore : (before : List Call) (k : ℕ) → edit (wordsAfter ws before) (restore k) .replied .code ≡ 0
-        → Altered (rolesOf (stateAfter (stateOf ws) before)) (stateAfter (stateOf ws) (before ++ (restore k ∷ [])) .standing) (single k)
-        (wordsAfter ws before) (wordsAfter ws (before ++ (restore k ∷ [])))
-    prefix-restore before k e =
-        let st = stateAfter (stateOf ws) before in
-        rw (at-prefix before, next-words before (restore k), state-append (stateOf ws) before (restore k))
-        (restore-words st k (after-fit (stateOf ws) before (sound-fit ws h)) (code-of before (restore k) e))
+-- "from a freshly mined panel": the record as an accepted mining left it, and the machine from the same crew list
+pub mined-claim : (n m : ℕ) (crew ws : List ℕ) → mine n m crew ws .code ≡ 0 → (calls : List Call)
+    → Condition3 (fresh n m (rowsAt n crew 0)) (mine n m crew ws .words) calls
+mined-claim n m crew ws e calls =
+    let ok : miningRefusal n m crew ws ≡ 0 = sym (mine-code n m crew ws) ∙ e in
+    rw (mine-accepted n m crew ws ok) (built-claim (fresh n m (rowsAt n crew 0)) (mining-fit n m crew ws ok) calls)

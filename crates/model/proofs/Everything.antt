@@ -15,6 +15,8 @@ use Rattle.model.specs.State.{rolesOf, standingNow, fresh, withinLimits,
 use Rattle.model.specs.Record.{headerWord, regionWord, wordAt, built, stateOf, roleRowsOf, stateSound, sound}
 use Rattle.model.specs.Refusals.{_unless_, _orElse_, lengthRefusal, soundnessRefusal, limitsRefusal, crewSizeRefusal, crewRowsRefusal, crewRefusal, candidatesRefusal, roleRefusal, pairRefusal, absentRefusal, standingRefusal, strikeRefusal, weightsRefusal, toleranceRefusal}
 use Rattle.model.specs.Machine.{least, coverers, redundancy, before, first, foremost, afterDrop, afterStrike, afterStay, takeUp, takeUpAll, pass, passes, begin, eliminated, afterRestore, tryRestore, reviewTo, reviewPasses, reviewed, reply, refusal, accepted, step, stateAfter, repliesTo}
+use Rattle.model.specs.Altered.{inside, rowWord, concerned}
+use Rattle.model.specs.Calls.{unfit, miningRefusal, mine, edit, told, qualityOf, mayOf}
 
 unfoldable pub everything : ℕ
 unfolding ones onesIn _and_ _or_ _implies_ isnt if_then_else_ bit any all none total has _∩_ _∪_ _∖_ single subset properSubset collect value word
@@ -25,5 +27,5 @@ unfolding ones onesIn _and_ _or_ _implies_ isnt if_then_else_ bit any all none t
     soundnessRefusal limitsRefusal crewSizeRefusal crewRowsRefusal crewRefusal candidatesRefusal roleRefusal pairRefusal absentRefusal standingRefusal
     strikeRefusal weightsRefusal toleranceRefusal least coverers redundancy before first foremost
     toleranceAllowed afterDrop afterStrike afterStay takeUp takeUpAll pass passes begin eliminated afterRestore tryRestore reviewTo reviewPasses reviewed
-    reply refusal accepted step stateAfter repliesTo
+    reply refusal accepted step stateAfter repliesTo inside rowWord concerned unfit miningRefusal mine edit told qualityOf mayOf
 everything = 0

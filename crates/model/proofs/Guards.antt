@@ -68,6 +68,10 @@ guards =
     ∷ guard 3 (3 ∷ 5 ∷ []) (strike 0 ∷ reviews 1 0 1 0 ∷ []) (reply 0 0 0 ∷ reply 0 0 1 ∷ []) 6
     -- one pass of a review only
     ∷ guard 3 (3 ∷ 5 ∷ 7 ∷ []) (strike 0 ∷ strike 3 ∷ reviews 0 1 0 0 ∷ []) (reply 0 0 0 ∷ reply 0 0 0 ∷ reply 0 1 3 ∷ []) 14
+    -- review by falling number
+    ∷ guard 3 (4 ∷ 2 ∷ 1 ∷ 5 ∷ 7 ∷ []) (eliminates 2 0 3 1 2 1 ∷ reviews 1 1 0 0 ∷ []) (reply 0 2 2 ∷ reply 0 1 3 ∷ []) 15
+    -- a role that is tried and not struck leaving the worklist
+    ∷ guard 4 (5 ∷ 14 ∷ 13 ∷ []) (eliminates 1 0 2 0 1 1 ∷ []) (reply 0 1 5 ∷ []) 23
     -- a role covering its own grants
     ∷ guard 3 (3 ∷ 6 ∷ 7 ∷ []) (strike 1 ∷ []) (reply 8 0 0 ∷ []) 15
     -- users' own sets dropped

@@ -20,8 +20,12 @@ pub mod Elimination
 pub mod Review
 pub mod Bounds
 pub mod Steps
+pub mod Calls
+pub mod Rules
+pub mod Notions
 pub mod Claim
 pub mod Shortcuts
 pub mod Intervals
 pub mod Sound
 pub mod Ends
+pub mod Conditions

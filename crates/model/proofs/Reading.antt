@@ -1,12 +1,13 @@
 -- Each definition of the building and of coverage, as the statement that it computes.
 -- Assumes nothing.
 use mathlib.Core.Path.{_≡_, refl, sym}
-use mathlib.Core.Bool.{So}
-use mathlib.Core.Logic.{_↔_, _≢_}
+use mathlib.Core.Bool.{Bool, false, So}
+use mathlib.Core.Logic.{_↔_, _≢_, ⊎-elim}
 use Prim.Native.Nat.{ℕ, _<_, _^_}
 use lib.ListN.{getD}
 use Rattle.sets.specs.Sets.{has, _∖_, single, subset, properSubset}
-use Rattle.sets.proofs.Truth.{and-iff, reflect}
+use Rattle.sets.specs.Truth.{_and_, isnt, any}
+use Rattle.sets.proofs.Truth.{by-test, So-not, and-iff, isnt-iff, any-iff, find, reflect}
 use Rattle.sets.proofs.Order.{collect-iff, single-iff, ∖-iff}
 use Rattle.model.specs.Hierarchy.{Roles, candidateCount, permissionSet, authorisedUsers, senior, immediatelySenior, immediateJuniors, directPermissions, directMembers}
 use Rattle.model.proofs.Direct.{direct-iff}
@@ -81,6 +82,39 @@ module _ (ρ : Roles) where
               covered-iff (R ∖ single k) u p .1 (w .0, w .1, ∖-iff R (single k) (w .0) .1 (w .2, λ s. w .3 (sym (single-iff k (w .0) .0 s))), w .4)),
         ),
   )
+
+  -- a standing role that is not strikable covers a grant that no other standing role covers
+  pub bare-of : (R k : ℕ) → k < candidateCount ρ → So (has R k) → strikable ρ R k ≡ false
+      → (u : ℕ) × (p : ℕ) × So (covers ρ k u p) × ((j : ℕ) → j < candidateCount ρ → So (has R j) → j ≢ k → So (covers ρ j u p) → ⊥)
+  bare-of R k lk h f =
+      let rest = R ∖ single k in
+      let bare : ℕ → ℕ → Bool = λ u p. covers ρ k u p and isnt (covered ρ rest u p) in
+      ⊎-elim
+      (λ w.
+      let u = w .0 in
+      let v = any-iff (ρ .permissions) (bare u) .0 (w .2) in
+      let p = v .0 in
+      let b = and-iff (covers ρ k u p) (isnt (covered ρ rest u p)) .0 (v .2) in (
+        u,
+        p,
+        b .0,
+        λ j lj hj d cv.
+            isnt-iff (covered ρ rest u p) .0 (b .1) (covered-iff rest u p .1 (j, lj, ∖-iff R (single k) j .1 (hj, λ e. d (sym (single-iff k j .0 e))), cv)),
+      ))
+      (λ none.
+      absurd
+      (So-not f
+      (strikable-iff R k lk .1 (
+        h,
+        λ u p lu lp g cv.
+            by-test (covered ρ rest u p)
+            (λ c.
+            let w = covered-iff rest u p .0 c in
+            let d = ∖-iff R (single k) (w .0) .0 (w .2) in
+            (w .0, w .1, d .0, λ e. d .1 (single-iff k (w .0) .1 (sym e)), w .3))
+            (λ n. absurd (none u lu (any-iff (ρ .permissions) (bare u) .1 (p, lp, and-iff (covers ρ k u p) (isnt (covered ρ rest u p)) .1 (cv, isnt-iff (covered ρ rest u p) .1 (So-not n)))))),
+      ))))
+      (find (ρ .users) (λ u. any (ρ .permissions) (bare u)))
 
   pub strikable-stands : (R k : ℕ) → So (strikable ρ R k) → So (has R k)
   unfolding strikable

@@ -240,6 +240,15 @@ module _ (st : State) (lim : Limits st) where
   unfolding headerWord
   read-count = built-word st 2 (omega arith) ∙ word-head st 2 (omega arith)
 
+  -- "3, 6 and 7: zero"
+  pub read-zeros : (getD (built st) 3 0 ≡ 0) × (getD (built st) 6 0 ≡ 0) × (getD (built st) 7 0 ≡ 0)
+  unfolding headerWord
+  read-zeros = (
+    built-word st 3 (omega arith) ∙ word-head st 3 (omega arith),
+    built-word st 6 (omega arith) ∙ word-head st 6 (omega arith),
+    built-word st 7 (omega arith) ∙ word-head st 7 (omega arith),
+  )
+
   pub read-standing : setAt 2 (built st) 4 ≡ st .standing
   unfolding headerWord
   read-standing = setAt-words 2 (st .standing) (built st) 4 standing-small (λ j l. built-word st (4 + j) (omega arith) ∙ word-head st (4 + j) (omega arith) ∙ marks j l)

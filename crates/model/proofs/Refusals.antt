@@ -1,9 +1,9 @@
 -- Refusals: what each check looks at, how checks are joined, and for each call which facts give which number, and which let it pass.
 -- Assumes nothing.
-use mathlib.Core.Path.{_≡_, refl, sym, _∙_, ap}
+use mathlib.Core.Path.{_≡_, refl, sym, _∙_, ap, subst}
 use mathlib.Core.Bool.{Bool, false, So}
-use mathlib.Core.Logic.{_↔_, _≢_}
-use mathlib.Core.List.{List}
+use mathlib.Core.Logic.{_↔_, _≢_, _⊎_, ⊎-elim}
+use mathlib.Core.List.{List, [], _∷_}
 use Prim.Native.Nat.{ℕ, zero, suc, _*_, _≤_, _<_}
 use native.Mathlib.Nat.{lt-irrefl}
 use native.Mathlib.Omega.{arith}
@@ -12,7 +12,7 @@ use lib.ListN.{length}
 use Rattle.sets.specs.Truth.{_and_, isnt}
 use Rattle.sets.specs.Sets.{has}
 use Rattle.sets.proofs.Truth.{So-not, not-So, by-test, equal-or, isnt-iff, eqb-iff, leb-iff, ltb-iff, reflect}
-use Rattle.model.specs.Lists.{rowsAt}
+use Rattle.model.specs.Lists.{rowsAt, OneOf}
 use Rattle.model.specs.Candidates.{candidates}
 use Rattle.model.specs.Hierarchy.{Roles, candidateCount}
 use Rattle.model.specs.Coverage.{strikable}
@@ -20,7 +20,7 @@ use Rattle.model.specs.Quality.{Weights, Tolerance, weightsAllowed, tole
 use Rattle.model.specs.State.{State, mostCandidates, rolesOf, withinLimits, rowsWithin}
 use Rattle.model.specs.Record.{recordLength, sound}
 use Rattle.model.specs.Refusals.{_unless_, _orElse_, lengthRefusal, soundnessRefusal, limitsRefusal, crewSizeRefusal, crewRowsRefusal, crewRefusal, candidatesRefusal, roleRefusal, pairRefusal, absentRefusal, standingRefusal, strikeRefusal, weightsRefusal, toleranceRefusal}
-use Rattle.model.specs.Machine.{refusal}
+use Rattle.model.specs.Machine.{Call, refusal}
 use Rattle.model.specs.Machine.Call.{strike, restore, eliminate, review}
 use Rattle.model.specs.Calls.{unfit, miningRefusal}
 use Rattle.model.proofs.Record.{sound-iff}
@@ -36,6 +36,16 @@ orElse-first (suc a) b d = refl
 pub orElse-next : (a b : ℕ) → a ≡ 0 → a orElse b ≡ b
 unfolding _orElse_
 orElse-next a b e = ap (λ (x : ℕ). x orElse b) e
+
+pub orElse-none : (a : ℕ) → a orElse 0 ≡ a
+unfolding _orElse_
+orElse-none zero = refl
+orElse-none (suc a) = refl
+
+pub orElse-assoc : (a b c : ℕ) → (a orElse b) orElse c ≡ a orElse b orElse c
+unfolding _orElse_
+orElse-assoc zero b c = refl
+orElse-assoc (suc a) b c = refl
 
 pub orElse-iff : (a b : ℕ) → (a orElse b ≡ 0) ↔ ((a ≡ 0) × (b ≡ 0))
 unfolding _orElse_
@@ -267,3 +277,36 @@ eliminate-check st w t = both (weights-check w) (tolerance-check t)
 pub review-check : (st : State) (w : Weights) → Check (refusal st (review w)) 9 (So (weightsAllowed w))
 unfolding refusal
 review-check st w = weights-check w
+
+-- ---- the numbers that can come
+
+-- a check finds nothing, or its number
+pub check-number : {a n : ℕ} {P : Type 0} → Check a n P → (a ≡ 0) ⊎ (a ≡ n)
+check-number {a} {n} c = equal-or a 0 (λ e. _⊎_.inl e) (λ d. _⊎_.inr (c .stops (λ p. d (c .passes p))))
+
+-- the number of a check with others behind it is its own or theirs
+pub first-number : {a n : ℕ} {P : Type 0} (b : ℕ) (numbers : List ℕ) → Check a n P → OneOf n numbers → OneOf b numbers → OneOf (a orElse b) numbers
+first-number {a} {n} b numbers c first rest =
+    equal-or a 0 (λ e. subst (λ (x : ℕ). OneOf x numbers) (sym (orElse-next a b e)) rest)
+    (λ d. subst (λ (x : ℕ). OneOf x numbers) (sym (stops-first b c (λ p. d (c .passes p)))) first)
+
+abbrev machineNumbers : List ℕ
+machineNumbers = 0 ∷ 6 ∷ 7 ∷ 8 ∷ 9 ∷ []
+
+nine : {x : ℕ} → (x ≡ 0) ⊎ (x ≡ 9) → OneOf x machineNumbers
+nine = ⊎-elim (λ e. _⊎_.inl e) (λ e. _⊎_.inr (_⊎_.inr (_⊎_.inr (_⊎_.inr (_⊎_.inl e)))))
+
+-- those of the machine
+pub refusal-number : (st : State) (call : Call) → OneOf (refusal st call) machineNumbers
+unfolding refusal
+refusal-number st (strike k) =
+    let ρ = rolesOf st in
+    first-number (absentRefusal (st .standing) k orElse strikeRefusal ρ (st .standing) k) machineNumbers (role-check ρ k) (_⊎_.inr (_⊎_.inl refl))
+    (first-number (strikeRefusal ρ (st .standing) k) machineNumbers (absent-check (st .standing) k) (_⊎_.inr (_⊎_.inr (_⊎_.inl refl)))
+    (⊎-elim (λ e. _⊎_.inl e) (λ e. _⊎_.inr (_⊎_.inr (_⊎_.inr (_⊎_.inl e)))) (check-number (strike-check ρ (st .standing) k))))
+refusal-number st (restore k) =
+    let ρ = rolesOf st in
+    first-number (standingRefusal (st .standing) k) machineNumbers (role-check ρ k) (_⊎_.inr (_⊎_.inl refl))
+    (⊎-elim (λ e. _⊎_.inl e) (λ e. _⊎_.inr (_⊎_.inr (_⊎_.inl e))) (check-number (standing-check (st .standing) k)))
+refusal-number st (eliminate w t) = nine (check-number (eliminate-check st w t))
+refusal-number st (review w) = nine (check-number (review-check st w))

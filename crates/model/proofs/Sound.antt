@@ -15,10 +15,11 @@ use Rattle.model.specs.Chains.{may, Authorised}
 use Rattle.model.specs.Quality.{counted, counts}
 use Rattle.model.specs.State.{rolesOf}
 use Rattle.model.specs.Record.{stateOf, sound, juniorsStart, membersStart, permissionsStart, roleRowsOf}
-use Rattle.model.proofs.Record.{read-count, rows-back, sound-built}
+use Rattle.model.proofs.Record.{read-count, sound-built}
 use Rattle.model.proofs.Building.{building-below}
 use Rattle.model.proofs.Chains.{may-iff, RoleRowsBelow}
 use Rattle.model.proofs.Steps.{limits-ordered}
+use Rattle.model.proofs.Notions.{rows-read}
 use Rattle.model.proofs.Claim.{sound-fit, words-authorised}
 
 -- ---- the rows of any record, below its number of roles
@@ -48,7 +49,7 @@ module _ (ws : List ℕ) (h : So (sound ws)) where
 
   -- the rows are those of the building
   pub sound-rows : roleRowsOf ws ≡ building (rolesOf (stateOf ws)) (stateOf ws .standing)
-  sound-rows = ap roleRowsOf (sound-built ws h) ∙ rows-back (stateOf ws) (sound-fit ws h .limits)
+  sound-rows = rows-read ws h
 
   pub sound-below : RoleRowsBelow (candidateCount (rolesOf (stateOf ws))) (roleRowsOf ws)
   sound-below = rw sound-rows (building-below (rolesOf (stateOf ws)) (stateOf ws .standing) (limits-ordered (stateOf ws) (sound-fit ws h .limits)))

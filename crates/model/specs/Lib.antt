@@ -6,9 +6,11 @@ pub mod Coverage
 pub mod Quality
 pub mod State
 pub mod Record
+pub mod Notions
 pub mod Altered
 pub mod Refusals
 pub mod Machine
 pub mod Calls
+pub mod Conditions
 pub mod Claim
 pub mod Indexes

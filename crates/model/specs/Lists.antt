@@ -1,5 +1,7 @@
 -- Lists by index, as the record and the crew words are read.
 -- Assumes nothing.
+use mathlib.Core.Path.{_≡_}
+use mathlib.Core.Logic.{_⊎_}
 use mathlib.Core.List.{List, [], _∷_}
 use Prim.Native.Nat.{ℕ, zero, suc, _+_, _*_}
 use lib.ListN.{getD}
@@ -22,3 +24,8 @@ setAt n ws at = value (elems ws at n)
 -- n sets of four words each, from place `at` on: a crew list's rows
 unfoldable pub rowsAt : ℕ → List ℕ → ℕ → List ℕ
 rowsAt n ws at = tabulate n (λ u. setAt 4 ws (at + 4 * u))
+
+-- x is one of the numbers of a list
+abbrev pub OneOf : ℕ → List ℕ → Type 0
+OneOf x [] = ⊥
+OneOf x (y ∷ ys) = (x ≡ y) ⊎ OneOf x ys
