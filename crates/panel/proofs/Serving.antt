@@ -22,11 +22,11 @@ use Rattle.model.specs.Machine.{Call, step, stateAfter, Reply, reply, repliesTo
 use Rattle.model.specs.Machine.Call.{strike, restore, eliminate, review}
 use Rattle.model.specs.Calls as calls
 use Rattle.model.specs.Calls.{Edited, edit, mine, miningRefusal}
-use Rattle.model.specs.Claim.{wordsAfter, Kept, repliesGiven}
+use Rattle.model.specs.Claim.{wordsAfter, repliesGiven}
 use Rattle.model.proofs.Lists.{length-rowsAt}
-use Rattle.model.proofs.Record.{state-back, withinLimits-iff, rowsWithin-iff}
-use Rattle.model.proofs.Steps.{Fit, fresh-fit}
-use Rattle.model.proofs.Claim.{fit-sound, claim, after-sound, after-state, edit-replied}
+use Rattle.model.proofs.Steps.{mining-fit}
+use Rattle.model.proofs.Calls.{mine-code, mine-accepted, mine-refused}
+use Rattle.model.proofs.Claim.{built-claim}
 use Rattle.quality.specs.Numbers.{weightsOf, toleranceOf}
 use Rattle.stores.specs.Stores.{putAt}
 use Rattle.panel.specs.declared.list.Outcome.{Outcome}
@@ -36,13 +36,13 @@ use Rattle.call_strike.specs.declared.StrikeAnswer.{StrikeAnswer}
 use Rattle.call_restore.specs.declared.RestoreAnswer.{RestoreAnswer}
 use Rattle.call_eliminate.specs.declared.EliminateAnswer.{EliminateAnswer}
 use Rattle.call_review.specs.declared.ReviewAnswer.{ReviewAnswer}
-use Rattle.call_mine.specs.Answers.{mined}
-use Rattle.call_strike.specs.Answers.{afterStrike}
-use Rattle.call_restore.specs.Answers.{afterRestore}
-use Rattle.call_eliminate.specs.Answers.{eliminateGiven}
-use Rattle.call_review.specs.Answers.{reviewGiven}
-use Rattle.panel.specs.Answers.{outcome}
-use Rattle.panel.specs.Lists.{callAt, callsFrom, callsIn, readable, answerWords, Condition3, ServedAs}
+use Rattle.call_mine.specs.Results.{mineResult}
+use Rattle.call_strike.specs.Results.{strikeResult}
+use Rattle.call_restore.specs.Results.{restoreResult}
+use Rattle.call_eliminate.specs.Results.{eliminateResult}
+use Rattle.call_review.specs.Results.{reviewResult}
+use Rattle.panel.specs.Results.{outcomeResult}
+use Rattle.panel.specs.Lists.{callAt, callsFrom, callsIn, readable, answerWords, ServedAs}
 
 -- ---- one call by its kind
 
@@ -74,26 +74,26 @@ module _ (ws : List ℕ) (i : ℕ) where
 
 -- the answer of each call as an outcome
 module _ (cs : List ℕ) (at : ℕ) (ws after : List ℕ) (r : Outcome) where
-  pub served-strike : (a : StrikeAnswer) → (r .code ≡ a .code) × (r .changed ≡ 0) × (r .examined ≡ 0) → afterStrike a after ≡ edit ws (strike (getD cs (at + 1) 0)) → getD cs at 0 ≡ 0
-      → outcome r after ≡ edit ws (callAt cs at)
-  unfolding outcome afterStrike
+  pub served-strike : (a : StrikeAnswer) → (r .code ≡ a .code) × (r .changed ≡ 0) × (r .examined ≡ 0) → strikeResult a after ≡ edit ws (strike (getD cs (at + 1) 0)) → getD cs at 0 ≡ 0
+      → outcomeResult r after ≡ edit ws (callAt cs at)
+  unfolding outcomeResult strikeResult
   served-strike a e h k = (λ i. record { replied = reply (e .0 i) (e .1 i) (e .2 i); words = after }) ∙ h ∙ ap (edit ws) (sym (call-strike cs at k))
 
-  pub served-restore : (a : RestoreAnswer) → (r .code ≡ a .code) × (r .changed ≡ 0) × (r .examined ≡ 0) → afterRestore a after ≡ edit ws (restore (getD cs (at + 1) 0)) → getD cs at 0 ≢ 0
-      → getD cs at 0 ≡ 1 → outcome r after ≡ edit ws (callAt cs at)
-  unfolding outcome afterRestore
+  pub served-restore : (a : RestoreAnswer) → (r .code ≡ a .code) × (r .changed ≡ 0) × (r .examined ≡ 0) → restoreResult a after ≡ edit ws (restore (getD cs (at + 1) 0)) → getD cs at 0 ≢ 0
+      → getD cs at 0 ≡ 1 → outcomeResult r after ≡ edit ws (callAt cs at)
+  unfolding outcomeResult restoreResult
   served-restore a e h d k = (λ i. record { replied = reply (e .0 i) (e .1 i) (e .2 i); words = after }) ∙ h ∙ ap (edit ws) (sym (call-restore cs at d k))
 
   pub served-eliminate : (a : EliminateAnswer) → (r .code ≡ a .code) × (r .changed ≡ a .removed) × (r .examined ≡ a .examined)
-      → eliminateGiven a after ≡ edit ws (eliminate (weightsOf (getD cs (at + 1) 0) (getD cs (at + 2) 0) (getD cs (at + 3) 0) (getD cs (at + 4) 0)) (toleranceOf (getD cs (at + 5) 0) (getD cs (at + 6) 0)))
-      → getD cs at 0 ≢ 0 → getD cs at 0 ≢ 1 → getD cs at 0 ≡ 2 → outcome r after ≡ edit ws (callAt cs at)
-  unfolding outcome eliminateGiven
+      → eliminateResult a after ≡ edit ws (eliminate (weightsOf (getD cs (at + 1) 0) (getD cs (at + 2) 0) (getD cs (at + 3) 0) (getD cs (at + 4) 0)) (toleranceOf (getD cs (at + 5) 0) (getD cs (at + 6) 0)))
+      → getD cs at 0 ≢ 0 → getD cs at 0 ≢ 1 → getD cs at 0 ≡ 2 → outcomeResult r after ≡ edit ws (callAt cs at)
+  unfolding outcomeResult eliminateResult
   served-eliminate a e h d d' k = (λ i. record { replied = reply (e .0 i) (e .1 i) (e .2 i); words = after }) ∙ h ∙ ap (edit ws) (sym (call-eliminate cs at d d' k))
 
   pub served-review : (a : ReviewAnswer) → (r .code ≡ a .code) × (r .changed ≡ a .restored) × (r .examined ≡ a .examined)
-      → reviewGiven a after ≡ edit ws (review (weightsOf (getD cs (at + 1) 0) (getD cs (at + 2) 0) (getD cs (at + 3) 0) (getD cs (at + 4) 0)))
-      → getD cs at 0 ≢ 0 → getD cs at 0 ≢ 1 → getD cs at 0 ≢ 2 → outcome r after ≡ edit ws (callAt cs at)
-  unfolding outcome reviewGiven
+      → reviewResult a after ≡ edit ws (review (weightsOf (getD cs (at + 1) 0) (getD cs (at + 2) 0) (getD cs (at + 3) 0) (getD cs (at + 4) 0)))
+      → getD cs at 0 ≢ 0 → getD cs at 0 ≢ 1 → getD cs at 0 ≢ 2 → outcomeResult r after ≡ edit ws (callAt cs at)
+  unfolding outcomeResult reviewResult
   served-review a e h d d' d'' = (λ i. record { replied = reply (e .0 i) (e .1 i) (e .2 i); words = after }) ∙ h ∙ ap (edit ws) (sym (call-review cs at d d' d''))
 
 -- ---- whether a list can be read
@@ -165,8 +165,8 @@ put-take l i (v ∷ vs) h =
     ∙ ap (λ (x : List ℕ). x ++ vs) (take-suc-set l i v (omega arith)) ∙ append-assoc (take i l) (v ∷ []) vs
 
 pub serving-more : (calls start : List ℕ) (n i : ℕ) (ws out after : List ℕ) (r : Outcome) → Serving calls start n i ws out → i < n → length out ≡ 3 * n
-    → outcome r after ≡ edit ws (callAt calls (7 * i)) → Serving calls start n (i + 1) after (putAt out (3 * i) (r .code ∷ r .changed ∷ r .examined ∷ []))
-unfolding outcome callsFrom wordsAfter repliesGiven answerWords reply
+    → outcomeResult r after ≡ edit ws (callAt calls (7 * i)) → Serving calls start n (i + 1) after (putAt out (3 * i) (r .code ∷ r .changed ∷ r .examined ∷ []))
+unfolding outcomeResult callsFrom wordsAfter repliesGiven answerWords reply
 serving-more calls start n i ws out after r p l size e =
     let left : n - i ≡ suc (n - (i + 1)) = omega arith in
     let place : 7 * i + 7 ≡ 7 * (i + 1) = omega arith in
@@ -199,84 +199,20 @@ serving-all calls start i ws out p e size =
 
 -- ---- mining
 
-module _ (n m : ℕ) (crew ws : List ℕ) where
-  abbrev rows : List ℕ
-  rows = rowsAt n crew 0
+module _ (n m : ℕ) (crew ws : List ℕ) (r : MineAnswer) (after : List ℕ) (e : mineResult r after ≡ mine n m crew ws) where
+  code-is : r .code ≡ miningRefusal n m crew ws
+  unfolding mineResult
+  code-is = ap (λ (x : calls.Mined). x .code) e ∙ mine-code n m crew ws
 
-  -- a refusal's test that was passed, and those behind it
-  past : (t : Bool) (k rest : ℕ) → 1 ≤ k → (if isnt t then k else rest) ≡ 0 → So t × (rest ≡ 0)
-  past t k rest l e =
-      if-cases (isnt t) k rest 0 e (λ h x. let z : ⊥ = omega arith in absurd z) (λ h x. (by-test t (λ y. y) (λ y. absurd (So-not h (isnt-iff t .1 (So-not y)))), x))
+  mine-left : miningRefusal n m crew ws ≢ 0 → after ≡ ws
+  unfolding mineResult
+  mine-left d = ap (λ (x : calls.Mined). x .words) (e ∙ mine-refused n m crew ws d)
 
-  -- a crew list that mining accepts gives a state that covers each grant
-  pub fresh-good : miningRefusal n m crew ws ≡ 0 → Fit (fresh n m rows)
-  unfolding miningRefusal
-  fresh-good e =
-      let a = past (eqb (length ws) recordLength) 1 _ (omega arith) e in
-      let b = past (withinLimits n m) 2 _ (omega arith) (a .1) in
-      let c = past (eqb (length crew) (4 * n) and rowsWithin m rows) 3 _ (omega arith) (b .1) in
-      let d = past (leb (length (candidates rows)) 128) 4 0 (omega arith) (c .1) in
-      let afterStay = withinLimits-iff n m .0 (b .0) in
-      let within = and-iff (eqb (length crew) (4 * n)) (rowsWithin m rows) .0 (c .0) .1 in
-      fresh-fit n m rows (afterStay .0) (afterStay .1) (afterStay .2) (afterStay .3) (length-rowsAt n crew 0)
-      (λ u l. rowsWithin-iff m rows .0 within u (rw (length-rowsAt n crew 0) l)) (leb-iff (length (candidates rows)) 128 .0 (d .0))
-
-  pub mine-refused : (r : MineAnswer) (after : List ℕ) → mined r after ≡ mine n m crew ws → r .code ≢ 0 → (miningRefusal n m crew ws ≡ r .code) × (after ≡ ws)
-  unfolding mined mine
-  mine-refused r after e d =
-      let t = eqb (miningRefusal n m crew ws) 0 in
-      by-test t
-      (λ h. absurd (d (ap (λ (x : calls.Mined). x .code) (e ∙ if-true t _ _ h))))
-      (λ h.
-      let f = e ∙ if-false t _ _ h in
-      (sym (ap (λ (x : calls.Mined). x .code) f), ap (λ (x : calls.Mined). x .words) f))
-
-  pub mine-accepted : (r : MineAnswer) (after : List ℕ) → mined r after ≡ mine n m crew ws → r .code ≡ 0
-      → (miningRefusal n m crew ws ≡ 0) × (after ≡ built (fresh n m rows)) × (r .candidates ≡ length (candidates rows))
-  unfolding mined mine
-  mine-accepted r after e z =
-      let t = eqb (miningRefusal n m crew ws) 0 in
-      by-test t
-      (λ h.
-      let f = e ∙ if-true t _ _ h in
-      (eqb-iff (miningRefusal n m crew ws) 0 .0 h, ap (λ (x : calls.Mined). x .words) f, ap (λ (x : calls.Mined). x .candidates) f))
-      (λ h.
-      let f = e ∙ if-false t _ _ h in
-      absurd (So-not h (eqb-iff (miningRefusal n m crew ws) 0 .1 (sym (ap (λ (x : calls.Mined). x .code) f) ∙ z))))
-
--- ---- condition 3
-
--- every clause of it, of the words and the answers that serving a list leaves
-pub condition3 : (st : State) (cs : List Call) (ws out : List ℕ) → Fit st → ws ≡ wordsAfter (built st) cs → out ≡ answerWords (repliesGiven (built st) cs) → Condition3 st cs ws out
-condition3 st cs ws out fit ew eo =
-    let back = state-back st (fit .limits) in
-    let h = fit-sound st fit in
-    let afterStay : Kept (built st) cs = claim (built st) h cs in
-    record {
-      words = ew;
-      standing = ap stateOf ew ∙ afterStay .standing ∙ ap (λ (x : State). stateAfter x cs) back;
-      answers = eo ∙ ap answerWords (afterStay .answers ∙ ap (λ (x : State). repliesTo x cs) back);
-      afresh = ew ∙ afterStay .afresh ∙ ap (λ (x : State). built (stateAfter x cs)) back;
-      authorised = λ u p lu lp.
-          subst (λ (l : List ℕ). Authorised (roleRowsOf l) u p ↔ So (has (getD (st .rows) u 0) p)) (sym ew)
-          (subst (λ (x : State). Authorised (roleRowsOf (wordsAfter (built st) cs)) u p ↔ So (has (getD (x .rows) u 0) p)) back
-          (afterStay .authorised u p (rw back lu) (rw back lp)));
-      no-return = λ k. subst (λ (l : List ℕ). Chain (link (roleRowsOf l)) k k → ⊥) (sym ew) (afterStay .no-return k);
-      no-replacement = λ x y. subst (λ (l : List ℕ). So (link (roleRowsOf l) x y) → Chain (linksBut (link (roleRowsOf l)) x y) x y → ⊥) (sym ew) (afterStay .no-replacement x y);
-      strikes-altered = λ before rest k e code.
-          subst (λ (x : State). Altered (rolesOf (stateAfter x before)) (stateAfter x before .standing) (single k) (wordsAfter (built st) before) (wordsAfter (built st) (before ++ (strike k ∷ [])))) back
-          (afterStay .strikes-altered before rest k e (accepted-too before (strike k) code));
-      restorations-altered = λ before rest k e code.
-          subst (λ (x : State). Altered (rolesOf (stateAfter x before)) (stateAfter x (before ++ (restore k ∷ [])) .standing) (single k) (wordsAfter (built st) before) (wordsAfter (built st) (before ++ (restore k ∷ [])))) back
-          (afterStay .restorations-altered before rest k e (accepted-too before (restore k) code));
-    }
-  where
-    -- what the machine accepts, the call accepts
-    accepted-too : (before : List Call) (call : Call) → step (stateAfter st before) call .replied .code ≡ 0 → edit (wordsAfter (built st) before) call .replied .code ≡ 0
-    accepted-too before call code =
-        let h = fit-sound st fit in
-        let now : stateOf (wordsAfter (built st) before) ≡ stateAfter st before = after-state (built st) h before ∙ ap (λ (x : State). stateAfter x before) (state-back st (fit .limits)) in
-        ap (λ (a : Reply). a .code) (edit-replied (wordsAfter (built st) before) (after-sound (built st) h before) call) ∙ ap (λ (x : State). step x call .replied .code) now ∙ code
+  mine-fresh : miningRefusal n m crew ws ≡ 0 → (after ≡ built (fresh n m (rowsAt n crew 0))) × (r .candidates ≡ length (candidates (rowsAt n crew 0)))
+  unfolding mineResult
+  mine-fresh z =
+      let f = e ∙ mine-accepted n m crew ws z in
+      (ap (λ (x : calls.Mined). x .words) f, ap (λ (x : calls.Mined). x .candidates) f)
 
 -- ---- the list as a whole
 
@@ -289,25 +225,31 @@ module _ (n m : ℕ) (crew calls ws out : List ℕ) where
         mined = λ h. absurd (So-not f h);
       }
 
-  pub served-refused : So (readable calls out) → (r : MineAnswer) (after : List ℕ) → mined r after ≡ mine n m crew ws → r .code ≢ 0 → ServedAs n m crew calls ws out (Refused (r .code)) after out
-  served-refused h r after e d =
-      let a = mine-refused n m crew ws r after e d in
-      record {
-        unreadable = λ x. absurd (x h);
-        refused = λ x y. (ap Refused (sym (a .0)), a .1, refl);
-        mined = λ x y. absurd (d (sym (a .0) ∙ y));
-      }
+  module _ (h : So (readable calls out)) (r : MineAnswer) (mid : List ℕ) (e : mineResult r mid ≡ mine n m crew ws) where
+    pub served-refused : r .code ≢ 0 → ServedAs n m crew calls ws out (Refused (r .code)) mid out
+    served-refused d =
+        let same = code-is n m crew ws r mid e in
+        record {
+          unreadable = λ x. absurd (x h);
+          refused = λ x y. (ap Refused same, mine-left n m crew ws r mid e y, refl);
+          mined = λ x y. absurd (d (same ∙ y));
+        }
 
-  pub served-mined : So (readable calls out) → (r : MineAnswer) (mid after out' : List ℕ) → mined r mid ≡ mine n m crew ws → r .code ≡ 0
-      → (after ≡ wordsAfter mid (callsIn calls)) × (out' ≡ answerWords (repliesGiven mid (callsIn calls))) → ServedAs n m crew calls ws out (Mined (r .candidates)) after out'
-  served-mined h r mid after out' e z done =
-      let a = mine-accepted n m crew ws r mid e z in
-      record {
-        unreadable = λ x. absurd (x h);
-        refused = λ x y. absurd (y (a .0));
-        mined = λ x y. (
-          ap Mined (a .2),
-          condition3 (fresh n m (rowsAt n crew 0)) (callsIn calls) after out' (fresh-good n m crew ws (a .0))
-              (done .0 ∙ ap (λ (l : List ℕ). wordsAfter l (callsIn calls)) (a .1)) (done .1 ∙ ap (λ (l : List ℕ). answerWords (repliesGiven l (callsIn calls))) (a .1)),
-        );
-      }
+    pub served-mined : r .code ≡ 0 → (after out' : List ℕ) → (after ≡ wordsAfter mid (callsIn calls)) × (out' ≡ answerWords (repliesGiven mid (callsIn calls)))
+        → ServedAs n m crew calls ws out (Mined (r .candidates)) after out'
+    served-mined z after out' done =
+        let none = sym (code-is n m crew ws r mid e) ∙ z in
+        let made = mine-fresh n m crew ws r mid e none in
+        let st = fresh n m (rowsAt n crew 0) in
+        record {
+          unreadable = λ x. absurd (x h);
+          refused = λ x y. absurd (y none);
+          mined = λ x y. (
+            ap Mined (made .1),
+            record {
+              words = done .0 ∙ ap (λ (l : List ℕ). wordsAfter l (callsIn calls)) (made .0);
+              answers = done .1 ∙ ap (λ (l : List ℕ). answerWords (repliesGiven l (callsIn calls))) (made .0);
+              condition3 = built-claim st (mining-fit n m crew ws none) (callsIn calls);
+            },
+          );
+        }

@@ -1,24 +1,21 @@
--- A list of calls as words, served one after the other; and condition 3 of it, one named clause for each part.
+-- A list of calls as words, served one after the other; and condition 3 of it.
 -- Assumes nothing.
 use mathlib.Core.Path.{_≡_}
 use mathlib.Core.Bool.{Bool, So}
-use mathlib.Core.Logic.{_↔_, _≢_}
-use mathlib.Core.List.{List, [], _∷_, _++_}
-use Prim.Native.Nat.{ℕ, zero, suc, _+_, _*_, _/_, _<_}
+use mathlib.Core.Logic.{_≢_}
+use mathlib.Core.List.{List, [], _∷_}
+use Prim.Native.Nat.{ℕ, zero, suc, _+_, _*_, _/_}
 use lib.Dec.{eqb, ltb}
 use lib.ListN.{length, getD}
 use Rattle.sets.specs.Truth.{_and_, if_then_else_, all}
-use Rattle.sets.specs.Sets.{has, single}
 use Rattle.model.specs.Lists.{rowsAt}
 use Rattle.model.specs.Candidates.{candidates}
-use Rattle.model.specs.Chains.{link, Chain, Authorised, linksBut}
-use Rattle.model.specs.State.{State, rolesOf, fresh}
-use Rattle.model.specs.Record.{built, stateOf, roleRowsOf}
-use Rattle.model.specs.Altered.{Altered}
-use Rattle.model.specs.Machine.{Call, step, stateAfter, Reply, repliesTo}
+use Rattle.model.specs.State.{State, fresh}
+use Rattle.model.specs.Record.{built}
+use Rattle.model.specs.Machine.{Call, Reply}
 use Rattle.model.specs.Machine.Call.{strike, restore, eliminate, review}
 use Rattle.model.specs.Calls.{miningRefusal}
-use Rattle.model.specs.Claim.{wordsAfter}
+use Rattle.model.specs.Claim.{wordsAfter, repliesGiven, Condition3}
 use Rattle.quality.specs.Numbers.{weightsOf, toleranceOf}
 use Rattle.panel.specs.declared.list.Served.{Served}
 use Rattle.panel.specs.declared.list.Served.the-variants.{Unreadable, Refused, Mined}
@@ -52,27 +49,15 @@ unfoldable pub answerWords : List Reply → List ℕ
 answerWords [] = []
 answerWords (a ∷ more) = a .code ∷ a .changed ∷ a .examined ∷ answerWords more
 
--- ---- condition 3: from the state st, for a list of calls; `ws` are the words of the record at the end, and `out` the answers written
+-- ---- a list served
 
-pub record Condition3 (st : State) (calls : List Call) (ws out : List ℕ) : Type 0 where
-  -- the record at the end is what the calls leave, each lent the record as the one before left it
+-- from the record built afresh from st: the record at the end is `ws`, and the answers written are `out`
+pub record ListServed (st : State) (calls : List Call) (ws out : List ℕ) : Type 0 where
+  -- each call was lent the record as the one before left it
   pub words : ws ≡ wordsAfter (built st) calls
-  -- "the standing roles and all answers are the plain machine's"; the machine is fed kinds and numbers only
-  pub standing : stateOf ws ≡ stateAfter st calls
-  pub answers : out ≡ answerWords (repliesTo st calls)
-  -- "every word of the record is what building afresh gives"
-  pub afresh : ws ≡ built (stateAfter st calls)
-  -- "everyone is authorised for exactly what the crew list grants", by reach, from the record's own words
-  pub authorised : (u p : ℕ) → u < st .users → p < st .permissions → Authorised (roleRowsOf ws) u p ↔ So (has (getD (st .rows) u 0) p)
-  -- "no chain of links returns to its start"
-  pub no-return : (k : ℕ) → Chain (link (roleRowsOf ws)) k k → ⊥
-  -- "no link could be replaced by a chain"
-  pub no-replacement : (x y : ℕ) → So (link (roleRowsOf ws) x y) → Chain (linksBut (link (roleRowsOf ws)) x y) x y → ⊥
-  -- "each strike or restoration altered only the marks and rows that 01 allows": for every prefix that ends in an accepted one
-  pub strikes-altered : (before rest : List Call) (k : ℕ) → calls ≡ before ++ (strike k ∷ rest) → step (stateAfter st before) (strike k) .replied .code ≡ 0
-      → Altered (rolesOf (stateAfter st before)) (stateAfter st before .standing) (single k) (wordsAfter (built st) before) (wordsAfter (built st) (before ++ (strike k ∷ [])))
-  pub restorations-altered : (before rest : List Call) (k : ℕ) → calls ≡ before ++ (restore k ∷ rest) → step (stateAfter st before) (restore k) .replied .code ≡ 0
-      → Altered (rolesOf (stateAfter st before)) (stateAfter st (before ++ (restore k ∷ [])) .standing) (single k) (wordsAfter (built st) before) (wordsAfter (built st) (before ++ (restore k ∷ [])))
+  pub answers : out ≡ answerWords (repliesGiven (built st) calls)
+  -- and of these the customer's condition 3 holds
+  pub condition3 : Condition3 st (built st) calls
 
 -- what serving a list leaves: the record and the answers are `ws` and `out` before, and `ws'` and `out'` after
 pub record ServedAs (n m : ℕ) (crew calls ws out : List ℕ) (r : Served) (ws' out' : List ℕ) : Type 0 where
@@ -80,6 +65,6 @@ pub record ServedAs (n m : ℕ) (crew calls ws out : List ℕ) (r : Served) (ws'
   pub unreadable : (So (readable calls out) → ⊥) → (r ≡ Unreadable) × (ws' ≡ ws) × (out' ≡ out)
   -- so does a crew list that mining refuses
   pub refused : So (readable calls out) → miningRefusal n m crew ws ≢ 0 → (r ≡ Refused (miningRefusal n m crew ws)) × (ws' ≡ ws) × (out' ≡ out)
-  -- and from a freshly mined panel condition 3 holds of every list
+  -- and from a freshly mined panel every list is served
   pub mined : So (readable calls out) → miningRefusal n m crew ws ≡ 0
-      → (r ≡ Mined (length (candidates (rowsAt n crew 0)))) × Condition3 (fresh n m (rowsAt n crew 0)) (callsIn calls) ws' out'
+      → (r ≡ Mined (length (candidates (rowsAt n crew 0)))) × ListServed (fresh n m (rowsAt n crew 0)) (callsIn calls) ws' out'

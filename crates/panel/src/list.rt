@@ -5,7 +5,7 @@ ghost use Prim.Native.Nat.{_+_, _*_, _/_, _≤_};
 ghost use lib.ListN.{length};
 ghost use Rattle.model.specs.Calls.{edit};
 ghost use Rattle.model.specs.Claim.{wordsAfter, repliesGiven};
-ghost use Rattle.panel.specs.Answers.{outcome};
+ghost use Rattle.panel.specs.Results.{outcomeResult};
 ghost use Rattle.panel.specs.Lists.{callAt, callsIn, readable, answerWords, ServedAs};
 use crate::exports::panel_eliminate;
 use crate::exports::panel_mine;
@@ -57,7 +57,7 @@ fn can_read(calls: &[u64], out: &[u64]) -> bool
 // Makes the call that stands at a place of the list.
 fn serve_call(rec: &mut [u64], calls: &[u64], at: usize) -> Outcome
     requires { ⌜ at + 7 ≤ length (now calls) ⌝ }
-    ensures { λ r. ⌜ outcome r (now (rec .exit)) ≡ edit (now (rec .entry)) (callAt (now (calls .entry)) at) ⌝ }
+    ensures { λ r. ⌜ outcomeResult r (now (rec .exit)) ≡ edit (now (rec .entry)) (callAt (now (calls .entry)) at) ⌝ }
 {
     let kind = calls[at];
     let x = calls[at + 1];

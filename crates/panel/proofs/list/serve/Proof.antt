@@ -27,7 +27,7 @@ same-length-3 c = search needs
 
 returns-2 : tie.Need-returns-2
 returns-2 c =
-    served-refused _ _ _ _ _ _ (sym (c .before .before .before .before .before .before .before .can-read .ensures) ∙ not-false _ (c .before .before .before .before .before .before .if1 .left)) _ _ (c .before .before .before .before .panel-mine .ensures) (c .if2 .taken)
+    served-refused _ _ _ _ _ _ (sym (c .before .before .before .before .before .before .before .can-read .ensures) ∙ not-false _ (c .before .before .before .before .before .before .if1 .left)) _ _ (c .before .before .before .before .panel-mine .ensures .0) (c .if2 .taken)
 
 serve-calls-requires : tie.Need-serve-calls-requires
 serve-calls-requires c κs =
@@ -41,7 +41,7 @@ same-length-5 c = search needs
 
 returns-3 : tie.Need-returns-3
 returns-3 c =
-    served-mined _ _ _ _ _ _ (sym (c .before .before .before .before .before .before .before .before .before .before .before .before .before .before .can-read .ensures) ∙ not-false _ (c .before .before .before .before .before .before .before .before .before .before .before .before .before .if1 .left)) (c .before .before .before .before .before .before .before .before .before .before .before .panel-mine .result) _ _ _ (c .before .before .before .before .before .before .before .before .before .before .before .panel-mine .ensures) (c .before .before .before .before .before .before .before .if2 .left) (c .before .before .before .before .serve-calls .ensures)
+    served-mined _ _ _ _ _ _ (sym (c .before .before .before .before .before .before .before .before .before .before .before .before .before .before .can-read .ensures) ∙ not-false _ (c .before .before .before .before .before .before .before .before .before .before .before .before .before .if1 .left)) (c .before .before .before .before .before .before .before .before .before .before .before .panel-mine .result) _ (c .before .before .before .before .before .before .before .before .before .before .before .panel-mine .ensures .0) (c .before .before .before .before .before .before .before .if2 .left) _ _ (c .before .before .before .before .serve-calls .ensures)
 
 pub serve-spec : {M : Type 1} → statement M
 serve-spec =

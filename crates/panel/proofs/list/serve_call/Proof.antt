@@ -28,7 +28,7 @@ same-length : tie.Need-same-length
 same-length c = search needs
 
 returns : tie.Need-returns
-returns c = served-strike _ _ _ _ _ _ (refl, refl, refl) (c .before .before .panel-strike .ensures) (c .before .before .before .before .if1 .taken)
+returns c = served-strike _ _ _ _ _ _ (refl, refl, refl) (c .before .before .panel-strike .ensures .0) (c .before .before .before .before .if1 .taken)
 
 panel-restore-requires : tie.Need-panel-restore-requires
 panel-restore-requires c κs = search needs
@@ -38,7 +38,7 @@ same-length-2 c = search needs
 
 returns-2 : tie.Need-returns-2
 returns-2 c =
-    served-restore _ _ _ _ _ _ (refl, refl, refl) (c .before .before .panel-restore .ensures) (c .before .before .before .before .before .if1 .left) (c .before .before .before .before .if2 .taken)
+    served-restore _ _ _ _ _ _ (refl, refl, refl) (c .before .before .panel-restore .ensures .0) (c .before .before .before .before .before .if1 .left) (c .before .before .before .before .if2 .taken)
 
 add-w2 : tie.Need-add-w2
 add-w2 c = search needs
@@ -93,7 +93,7 @@ same-length-3 c = search needs
 
 returns-3 : tie.Need-returns-3
 returns-3 c =
-    served-eliminate _ _ _ _ _ _ (refl, refl, refl) (c .before .before .panel-eliminate .ensures) (c .before .before .before .before .before .before .before .before .before .before .before .if1 .left) (c .before .before .before .before .before .before .before .before .before .before .if2 .left) (c .before .before .before .before .before .before .if3 .taken)
+    served-eliminate _ _ _ _ _ _ (refl, refl, refl) (c .before .before .panel-eliminate .ensures .0) (c .before .before .before .before .before .before .before .before .before .before .before .if1 .left) (c .before .before .before .before .before .before .before .before .before .before .if2 .left) (c .before .before .before .before .before .before .if3 .taken)
 
 panel-review-requires : tie.Need-panel-review-requires
 panel-review-requires c κs = search needs
@@ -103,7 +103,7 @@ same-length-4 c = search needs
 
 returns-4 : tie.Need-returns-4
 returns-4 c =
-    served-review _ _ _ _ _ _ (refl, refl, refl) (c .before .before .panel-review .ensures) (c .before .before .before .before .before .before .before .before .before .if1 .left) (c .before .before .before .before .before .before .before .before .if2 .left) (c .before .before .before .before .if3 .left)
+    served-review _ _ _ _ _ _ (refl, refl, refl) (c .before .before .panel-review .ensures .0) (c .before .before .before .before .before .before .before .before .before .if1 .left) (c .before .before .before .before .before .before .before .before .if2 .left) (c .before .before .before .before .if3 .left)
 
 pub serve-call-spec : {M : Type 1} → statement M
 serve-call-spec =

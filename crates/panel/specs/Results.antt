@@ -6,5 +6,5 @@ use Rattle.model.specs.Machine.{reply}
 use Rattle.model.specs.Calls.{Edited}
 use Rattle.panel.specs.declared.list.Outcome.{Outcome}
 
-unfoldable pub outcome : Outcome → List ℕ → Edited
-outcome r ws = record { replied = reply (r .code) (r .changed) (r .examined); words = ws }
+unfoldable pub outcomeResult : Outcome → List ℕ → Edited
+outcomeResult r ws = record { replied = reply (r .code) (r .changed) (r .examined); words = ws }
