@@ -1,109 +1,194 @@
 -- A role taken up, as the machine takes it up.
 -- Assumes nothing.
-use mathlib.Core.Path.{_≡_, sym, _∙_, ap}
+use mathlib.Core.Path.{_≡_, refl, sym, _∙_, ap}
 use mathlib.Core.Bool.{Bool, false, So}
+use mathlib.Core.Logic.{_≢_}
 use mathlib.Core.List.{List}
-use Prim.Native.Nat.{ℕ, suc, _+_, _*_, _≤_, _<_}
+use Prim.Native.Nat.{ℕ, suc, _+_, _*_, _≤_}
 use native.Mathlib.Nat.{mul-le-mul}
 use native.Mathlib.Numerals.{add-one}
 use native.Mathlib.Omega.{arith}
 use lib.Dec.{ltb}
-use Rattle.sets.specs.Truth.{isnt}
+use Rattle.sets.specs.Truth.{isnt, if_then_else_}
+use Rattle.sets.specs.Held.{set128}
 use Rattle.sets.specs.Sets.{has, _∖_, single}
-use Rattle.sets.proofs.Truth.{So-not, not-So, isnt-iff, ltb-iff, if-true, if-false}
+use Rattle.sets.proofs.Truth.{So-not, not-So, isnt-iff, if-true, if-false}
 use Rattle.sets.proofs.Items.{item-below}
-use Rattle.model.specs.Hierarchy.{directPermissions}
+use Rattle.sets.proofs.Order.{∖-iff, single-iff}
+use Rattle.model.specs.Hierarchy.{Roles, directPermissions}
 use Rattle.model.specs.Coverage.{strikable}
-use Rattle.model.specs.Indexes.{rolesOfPermission}
-use Rattle.model.specs.Quality.{Weights, quality}
-use Rattle.model.specs.Machine as model
-use Rattle.model.specs.Quality as modelQuality
-use Rattle.model.specs.Machine.{takeUp, afterDrop, afterStrike, afterStay}
+use Rattle.model.specs.Quality as model
+use Rattle.model.specs.Machine.{Run, takeUp, afterDrop, afterStrike, afterStay}
 use Rattle.model.specs.Record.{built, stateOf, Limits}
 use Rattle.model.specs.State.{State, rolesOf, standingNow}
 use Rattle.model.proofs.Record.{directPermissions-lt}
 use Rattle.model.proofs.Bounds.{tolerance-iff}
+use Rattle.model.proofs.Elimination.{take-up, examined-one}
 use Rattle.model.proofs.Steps.{standing-now}
-use Rattle.indexes.specs.Tables.{Indexed}
-use Rattle.edit_test.specs.Sparing.{HoldsFor}
-use Rattle.edit_trials.specs.declared.progress.Progress.{Progress}
-use Rattle.edit_trials.specs.Trying.{runAt, Ready}
+use Rattle.indexes.specs.Index.{Indexed, HoldersFor}
+use Rattle.rows.specs.Linked.{Ready}
+use Rattle.quality.specs.declared.counts.Counts.{Counts}
 use Rattle.quality.specs.declared.weights.Tolerance.{Tolerance}
-use Rattle.quality.specs.Numbers.{toleranceIn}
-use Rattle.edit_eliminate.specs.Passing.{Searched}
-
--- ---- what the removability test is asked
-
-module _ (ws low users roles holders : List ℕ) (ready : Ready ws low users) (found : Searched (stateOf ws) roles holders) where
-  pub searched-indexed : Indexed (stateOf ws) low roles users
-  searched-indexed = record { low-ones = ready .indexed .low-ones; user-roles = found .user-roles; role-users = ready .indexed .role-users }
-
-  pub removable-told : (k : ℕ) (t : Bool)
-      → ((st : State) (low users : List ℕ) → Limits st → ws ≡ built st → Indexed st low roles users → HoldsFor (directPermissions (rolesOf st) (st .standing) k) (rolesOfPermission (rolesOf st)) holders → So (has (st .standing) k) → t ≡ strikable (rolesOf st) (st .standing) k)
-      → So (has (stateOf ws .standing) k) → t ≡ strikable (rolesOf (stateOf ws)) (stateOf ws .standing) k
-  unfolding rolesOf
-  removable-told k t told stands =
-      let st = stateOf ws in
-      told st low users (ready .limits) (ready .afresh) searched-indexed
-      (λ p h. found .permission-roles p (item-below (st .permissions) (directPermissions (rolesOf st) (st .standing) k) p (directPermissions-lt (rolesOf st) (st .standing) k) h)) stands
+use Rattle.quality.specs.Numbers.{countsIn, weightsIn, toleranceIn, mostQuality, Few}
+use Rattle.edit_rows.specs.Neighbours.{Neighbours}
+use Rattle.edit_trials.specs.declared.progress.Progress.{Progress}
+use Rattle.edit_trials.specs.declared.trial.Trial.{Trial}
+use Rattle.edit_trials.specs.Trying.{runAt, Kin, Going, Tried}
+use Rattle.edit_trials.proofs.Runs.{kin-same, kin-now, kin-roles, strike-below, trial-few, trial-state, trial-going}
+use Rattle.edit_eliminate.specs.declared.turn.Terms.{Terms}
+use Rattle.edit_eliminate.specs.declared.turn.Turn.{Turn}
+use Rattle.edit_eliminate.specs.Passing.{takeUpBy, runIn, Stand, Underway, Reached}
 
 -- ---- products that can be formed
 
-pub tolerance-small : (t : Tolerance) → So (modelQuality.toleranceAllowed (toleranceIn t)) → (t .denominator ≤ 1000) × (t .numerator ≤ 2000)
-unfolding toleranceIn
-tolerance-small t h =
-    let k = tolerance-iff (toleranceIn t) .0 h in
-    let few = k .1 in
-    let most = k .3 in
-    (few, omega arith)
+module _ (t : Tolerance) (h : So (model.toleranceAllowed (toleranceIn t))) (q : ℕ) (small : q ≤ mostQuality) where
+  pub denominator-times : t .denominator * q ≤ 1000 * mostQuality
+  unfolding toleranceIn
+  denominator-times = mul-le-mul (tolerance-iff (toleranceIn t) .0 h .1) small
 
-pub product-small : (a q x y : ℕ) → a ≤ x → q ≤ y → a * q ≤ x * y
-product-small a q x y l m = mul-le-mul l m
+  pub numerator-times : t .numerator * q ≤ 2000 * mostQuality
+  unfolding toleranceIn
+  numerator-times =
+      let k = tolerance-iff (toleranceIn t) .0 h in
+      let b = k .1 in
+      let a = k .3 in
+      let most : t .numerator ≤ 2000 = omega arith in
+      mul-le-mul most small
 
--- ---- the three ways of a turn
+-- ---- what a turn of the machine leaves
 
-module _ (ws : List ℕ) (at : Progress) (w : Weights) (t : Tolerance) (k wl : ℕ) where
-  abbrev s : Bool
-  s = strikable (rolesOf (stateOf ws)) (stateOf ws .standing) k
+module _ (ρ : Roles) (terms : Terms) (k : ℕ) (r : Run) where
+  pub up-examined : takeUpBy ρ terms k r .examined ≡ suc (r .examined)
+  unfolding takeUpBy
+  up-examined = examined-one ρ (weightsIn (terms .weights)) (toleranceIn (terms .tolerance)) k r
 
-  pub turn-dropped : s ≡ false → (g : Progress) (wl' : ℕ)
-      → (g .counts ≡ at .counts) × (g .quality ≡ at .quality) × (g .changed ≡ at .changed) × (g .examined ≡ at .examined + 1) → wl' ≡ wl ∖ single k
-      → runAt ws g wl' ≡ takeUp (rolesOf (stateOf ws)) w (toleranceIn t) k (runAt ws at wl)
-  unfolding runAt takeUp afterDrop
-  turn-dropped cannot g wl' e el =
-      let examined : g .examined ≡ suc (at .examined) = e .3 ∙ add-one (at .examined) in
-      (λ i. record { standing = stateOf ws .standing; worklist = el i; reference = e .1 i; changed = e .2 i; examined = examined i })
-      ∙ sym (if-true (isnt s) _ _ (isnt-iff s .1 (So-not cannot)))
+  up-changed : takeUpBy ρ terms k r .changed ≤ suc (r .changed)
+  unfolding takeUpBy afterDrop afterStrike afterStay
+  up-changed =
+      take-up ρ (weightsIn (terms .weights)) (toleranceIn (terms .tolerance)) k r (λ _ e. rw e (omega arith)) (λ _ _ e. rw e (omega arith))
+      (λ _ _ e. rw e (omega arith))
 
-  module _ (able : So s) (q : ℕ) (eq : q ≡ quality (rolesOf (stateOf ws)) w (stateOf ws .standing ∖ single k)) where
-    abbrev q' : ℕ
-    q' = quality (rolesOf (stateOf ws)) w (stateOf ws .standing ∖ single k)
+  -- the others stand as they did
+  pub up-standing : (i : ℕ) → So (has (r .standing) i) → i ≢ k → So (has (takeUpBy ρ terms k r .standing) i)
+  unfolding takeUpBy afterDrop afterStrike afterStay
+  up-standing i h d =
+      take-up ρ (weightsIn (terms .weights)) (toleranceIn (terms .tolerance)) k r (λ _ e. rw e h)
+      (λ _ _ e. rw e (∖-iff (r .standing) (single k) i .1 (h, λ x. d (sym (single-iff k i .0 x))))) (λ _ _ e. rw e h)
 
-    on : isnt s ≡ false
-    on = not-So (isnt s) (λ h. isnt-iff s .0 h able)
+  -- what is listed stands
+  up-listed : Stand (r .worklist) (r .standing) → Stand (takeUpBy ρ terms k r .worklist) (takeUpBy ρ terms k r .standing)
+  unfolding takeUpBy afterDrop afterStrike afterStay
+  up-listed inv =
+      take-up ρ (weightsIn (terms .weights)) (toleranceIn (terms .tolerance)) k r (λ _ e. rw e (λ i h. inv i (∖-iff (r .worklist) (single k) i .0 h .0)))
+      (λ _ _ e.
+      rw e (λ i h. let a = ∖-iff (r .worklist) (single k) i .0 h in ∖-iff (r .standing) (single k) i .1 (inv i (a .0), a .1)))
+      (λ _ _ e. rw e inv)
 
-    pub turn-struck : t .denominator * q < t .numerator * at .quality → (after : List ℕ) (g : Progress) (wl' : ℕ)
-        → stateOf after ≡ standingNow (stateOf ws) (stateOf ws .standing ∖ single k) → g .quality ≡ q → g .changed ≡ at .changed + 1 → g .examined ≡ at .examined + 1
-        → wl' ≡ wl ∖ single k → runAt after g wl' ≡ takeUp (rolesOf (stateOf ws)) w (toleranceIn t) k (runAt ws at wl)
-    unfolding runAt takeUp afterStrike toleranceIn
-    turn-struck l after g wl' es er ec ee el =
-        let S = stateOf ws .standing ∖ single k in
-        let now : stateOf after .standing ≡ S = ap (λ (st : State). st .standing) es ∙ standing-now (stateOf ws) S in
-        let reference : g .quality ≡ q' = er ∙ eq in
-        let changed : g .changed ≡ suc (at .changed) = ec ∙ add-one (at .changed) in
-        let examined : g .examined ≡ suc (at .examined) = ee ∙ add-one (at .examined) in
-        let less : So (ltb (t .denominator * q') (t .numerator * at .quality)) = ltb-iff (t .denominator * q') (t .numerator * at .quality) .1 (rw eq at l) in
-        (λ i. record { standing = now i; worklist = el i; reference = reference i; changed = changed i; examined = examined i })
-        ∙ sym (if-false (isnt s) _ _ on ∙ if-true (ltb (t .denominator * q') (t .numerator * at .quality)) _ _ less)
+-- ---- the same by the code
 
-    pub turn-kept : t .numerator * at .quality ≤ t .denominator * q → (after : List ℕ) (g : Progress) → after ≡ ws
-        → (g .counts ≡ at .counts) × (g .quality ≡ at .quality) × (g .changed ≡ at .changed) × (g .examined ≡ at .examined + 1)
-        → runAt after g wl ≡ takeUp (rolesOf (stateOf ws)) w (toleranceIn t) k (runAt ws at wl)
-    unfolding runAt takeUp afterStay toleranceIn
-    turn-kept l after g es e =
-        let examined : g .examined ≡ suc (at .examined) = e .3 ∙ add-one (at .examined) in
-        let test = ltb (t .denominator * q') (t .numerator * at .quality) in
-        let l' : t .numerator * at .quality ≤ t .denominator * q' = rw eq at l in
-        let more : test ≡ false = not-So test (λ h. let x = ltb-iff (t .denominator * q') (t .numerator * at .quality) .0 h in let z : ⊥ = omega arith in z) in
-        (λ i. record { standing = stateOf (es i) .standing; worklist = wl; reference = e .1 i; changed = e .2 i; examined = examined i })
-        ∙ sym (if-false (isnt s) _ _ on ∙ if-false test _ _ more)
+-- one role more was examined, and not struck; or struck, with what that leaves
+abbrev pub unstruck : Progress → Progress
+unstruck g = record { counts = g .counts; quality = g .quality; changed = g .changed; examined = g .examined + 1 }
+
+abbrev pub struck : Progress → Counts → ℕ → Progress
+struck g q x = record { counts = q; quality = x; changed = g .changed + 1; examined = g .examined + 1 }
+
+-- the run of a record and a turn, number by number
+held : (ws : List ℕ) (r : Turn) {R wl q x y : ℕ} → stateOf ws .standing ≡ R → set128 (r .worklist) ≡ wl → r .progress .quality ≡ q → r .progress .changed ≡ x
+    → r .progress .examined ≡ y → runIn ws r ≡ record { standing = R; worklist = wl; reference = q; changed = x; examined = y }
+unfolding runIn runAt
+held ws r eR el eq ex ey = λ i. record { standing = eR i; worklist = el i; reference = eq i; changed = ex i; examined = ey i }
+
+module _ (ws index seniors : List ℕ) (terms : Terms) (turn : Turn) (k : ℕ) (u : Underway ws index seniors turn) where
+  abbrev ρ : Roles
+  ρ = rolesOf (stateOf ws)
+
+  abbrev R : ℕ
+  R = stateOf ws .standing
+
+  abbrev next : Run
+  next = takeUpBy (rolesOf (stateOf ws)) terms k (runIn ws turn)
+
+  reached : (after seniors' : List ℕ) (r : Turn) → Going after index seniors' (r .progress) → Kin (stateOf ws) after → r .progress .quality ≤ mostQuality
+      → runIn after r ≡ takeUpBy (rolesOf (stateOf ws)) terms k (runIn ws turn)
+      → Reached (stateOf ws) after index seniors' r (takeUpBy (rolesOf (stateOf ws)) terms k (runIn ws turn))
+  unfolding runIn runAt
+  reached after seniors' r going kin small run =
+      let changed : r .progress .changed ≤ suc (turn .progress .changed) = rw (ap (λ (x : Run). x .changed) run) (up-changed ρ terms k (runIn ws turn)) in
+      let examined : r .progress .examined ≡ suc (turn .progress .examined) = ap (λ (x : Run). x .examined) run ∙ up-examined ρ terms k (runIn ws turn) in
+      let fewer = u .fewer in
+      record {
+        underway = record {
+          going = going;
+          holders = rw (kin-roles (stateOf ws) after kin) (u .holders);
+          listed = rw (ap (λ (x : Run). x .worklist) run, ap (λ (x : Run). x .standing) run) (up-listed ρ terms k (runIn ws turn) (u .listed));
+          fewer = omega arith;
+          quality-small = small;
+        };
+        kin = kin;
+        run = run;
+      }
+
+  -- as the record was
+  stayed : (r : Turn) → r .progress ≡ unstruck (turn .progress) → runIn ws r ≡ takeUpBy (rolesOf (stateOf ws)) terms k (runIn ws turn)
+      → Reached (stateOf ws) ws index seniors r (takeUpBy (rolesOf (stateOf ws)) terms k (runIn ws turn))
+  stayed r e run =
+      reached ws seniors r (record { ready = u .going .ready; exact = rw e (u .going .exact) }) (kin-same ws) (rw e (u .quality-small)) run
+
+  -- what the code asks of the record
+  module _ (t : Bool) (stands : So (has (stateOf ws .standing) k))
+      (told : (st : State) → Limits st → ws ≡ built st → Indexed (rolesOf st) index → HoldersFor (rolesOf st) (directPermissions (rolesOf st) (st .standing) k) index → So (has (st .standing) k) → t ≡ strikable (rolesOf st) (st .standing) k) where
+    asked : t ≡ strikable (rolesOf (stateOf ws)) (stateOf ws .standing) k
+    unfolding rolesOf
+    asked =
+        let ready = u .going .ready in
+        told (stateOf ws) (ready .limits) (ready .afresh) (ready .indexed)
+        (λ p h. u .holders p (item-below (ρ .permissions) (directPermissions ρ R k) p (directPermissions-lt ρ R k) h)) stands
+
+    -- the role is not strikable
+    pub turn-dropped : t ≡ false → (r : Turn) → r .progress ≡ unstruck (turn .progress) → set128 (r .worklist) ≡ set128 (turn .worklist) ∖ single k
+        → Reached (stateOf ws) ws index seniors r (takeUpBy (rolesOf (stateOf ws)) terms k (runIn ws turn))
+    unfolding runIn runAt takeUpBy takeUp afterDrop
+    turn-dropped f r e el =
+        let examined : r .progress .examined ≡ suc (turn .progress .examined) = ap (λ (x : Progress). x .examined) e ∙ add-one (turn .progress .examined) in
+        stayed r e
+        (held ws r refl el (ap (λ (x : Progress). x .quality) e) (ap (λ (x : Progress). x .changed) e) examined
+        ∙ sym (if-true (isnt (strikable ρ R k)) _ _ (isnt-iff (strikable ρ R k) .1 (So-not (sym asked ∙ f)))))
+
+    -- its strike is weighed: q is the quality, and `less` says whether that is within the tolerance
+    module _ (able : So t) (trial : Trial) (weighed : Tried (rolesOf (stateOf ws)) (stateOf ws .standing) (stateOf ws .standing ∖ single k) k trial) (q : ℕ)
+        (eq : q ≡ model.weigh (weightsIn (terms .weights)) (countsIn (trial .counts))) (less : Bool)
+        (el : less ≡ ltb (terms .tolerance .denominator * q) (terms .tolerance .numerator * turn .progress .quality)) where
+      quality-then : q ≡ model.quality (rolesOf (stateOf ws)) (weightsIn (terms .weights)) (stateOf ws .standing ∖ single k)
+      unfolding model.quality
+      quality-then = eq ∙ ap (model.weigh (weightsIn (terms .weights))) (weighed .counts)
+
+      decided : takeUpBy (rolesOf (stateOf ws)) terms k (runIn ws turn) ≡ (if less then afterStrike k q (runIn ws turn) else afterStay (runIn ws turn))
+      unfolding runIn runAt takeUpBy takeUp toleranceIn
+      decided =
+          if-false (isnt (strikable ρ R k)) _ _ (not-So (isnt (strikable ρ R k)) (λ h. isnt-iff (strikable ρ R k) .0 h (sym asked ∙ able)))
+          ∙ rw (el, sym quality-then) refl
+
+      pub turn-stayed : less ≡ false → (r : Turn) → r .progress ≡ unstruck (turn .progress) → set128 (r .worklist) ≡ set128 (turn .worklist)
+          → Reached (stateOf ws) ws index seniors r (takeUpBy (rolesOf (stateOf ws)) terms k (runIn ws turn))
+      unfolding runIn runAt afterStay
+      turn-stayed f r e ew =
+          let examined : r .progress .examined ≡ suc (turn .progress .examined) = ap (λ (x : Progress). x .examined) e ∙ add-one (turn .progress .examined) in
+          stayed r e
+          (held ws r refl ew (ap (λ (x : Progress). x .quality) e) (ap (λ (x : Progress). x .changed) e) examined ∙ sym (decided ∙ if-false less _ _ f))
+
+      pub turn-struck : So less → q ≤ mostQuality → (after seniors' : List ℕ) → Ready (standingNow (stateOf ws) (stateOf ws .standing ∖ single k)) after index seniors' → (r : Turn)
+          → r .progress ≡ struck (turn .progress) (trial .counts) q → set128 (r .worklist) ≡ set128 (turn .worklist) ∖ single k
+          → Reached (stateOf ws) after index seniors' r (takeUpBy (rolesOf (stateOf ws)) terms k (runIn ws turn))
+      unfolding runIn runAt afterStrike
+      turn-struck within small after seniors' made r e ew =
+          let ready = u .going .ready in
+          let S = R ∖ single k in
+          let now-state = trial-state ws index seniors ready S (strike-below ws index seniors ready k) (trial .counts) (weighed .counts) after seniors' made in
+          let changed : r .progress .changed ≡ suc (turn .progress .changed) = ap (λ (x : Progress). x .changed) e ∙ add-one (turn .progress .changed) in
+          let examined : r .progress .examined ≡ suc (turn .progress .examined) = ap (λ (x : Progress). x .examined) e ∙ add-one (turn .progress .examined) in
+          reached after seniors' r
+          (trial-going ws index seniors ready S (strike-below ws index seniors ready k) (trial .counts) (weighed .counts) after seniors' made (r .progress) (ap (λ (x : Progress). x .counts) e))
+          (kin-now ws after S now-state) (rw e small)
+          (held after r (ap (λ (st : State). st .standing) now-state ∙ standing-now (stateOf ws) S) ew (ap (λ (x : Progress). x .quality) e) changed examined
+          ∙ sym (decided ∙ if-true less _ _ within))

@@ -1,32 +1,70 @@
--- What an elimination is given besides the record, and the tolerance that it keeps.
+-- An elimination on its way.
 -- Assumes nothing.
 use mathlib.Core.Path.{_≡_}
 use mathlib.Core.Bool.{So}
 use mathlib.Core.List.{List}
-use Prim.Native.Nat.{ℕ}
+use Prim.Native.Nat.{ℕ, _≤_}
+use lib.ListN.{take, drop}
+use Rattle.sets.specs.Held.{set128}
 use Rattle.sets.specs.Sets.{has}
-use Rattle.model.specs.Indexes.{rolesOfUser, rolesOfPermission}
-use Rattle.model.specs.Machine as model
-use Rattle.model.specs.Quality as modelQuality
+use Rattle.model.specs.Coverage.{strikables}
+use Rattle.model.specs.Hierarchy.{Roles, candidateCount}
+use Rattle.model.specs.Machine.{Run, takeUp, redundancy}
+use Rattle.model.specs.Quality.{weightsAllowed, toleranceAllowed}
+use Rattle.model.specs.Record.{stateOf}
 use Rattle.model.specs.State.{State, rolesOf}
-use Rattle.tables.specs.Tables.{Holds}
+use Rattle.indexes.specs.Index.{AllHolders}
+use Rattle.quality.specs.Numbers.{weightsIn, toleranceIn, mostQuality}
 use Rattle.edit_trials.specs.declared.progress.Progress.{Progress}
-use Rattle.edit_trials.specs.Trying.{runAt}
-use Rattle.quality.specs.declared.weights.Tolerance.{Tolerance}
+use Rattle.edit_trials.specs.Trying.{runAt, Kin, Going}
+use Rattle.edit_order.specs.Ranking.{Keyed}
+use Rattle.edit_order.specs.Work.{ranksStart}
+use Rattle.edit_eliminate.specs.declared.turn.Terms.{Terms}
+use Rattle.edit_eliminate.specs.declared.turn.Turn.{Turn}
 
--- a/b as the struct holds it
-unfoldable pub toleranceIn : Tolerance → modelQuality.Tolerance
-toleranceIn t = record { numerator = t .numerator; denominator = t .denominator }
+-- how many roles are taken up at most: 129 passes over 128 roles
+abbrev pub mostExamined : ℕ
+mostExamined = 16512
+
+-- weights and tolerance in their ranges
+pub record Allowed (t : Terms) : Type 0 where
+  pub weights : So (weightsAllowed (weightsIn (t .weights)))
+  pub tolerance : So (toleranceAllowed (toleranceIn (t .tolerance)))
+
+-- the machine takes role k up by these terms
+unfoldable pub takeUpBy : Roles → Terms → ℕ → Run → Run
+takeUpBy ρ t = takeUp ρ (weightsIn (t .weights)) (toleranceIn (t .tolerance))
+
+-- the machine's run that a record and a turn hold
+unfoldable pub runIn : List ℕ → Turn → Run
+runIn ws turn = runAt ws (turn .progress) (set128 (turn .worklist))
 
 -- every item of s stands
 abbrev pub Stand : ℕ → ℕ → Type 0
 Stand s R = (i : ℕ) → So (has s i) → So (has R i)
 
--- the record and the progress hold the machine's run, whatever is left of its worklist
-abbrev pub Ended : List ℕ → Progress → model.Run → Type 0
-Ended ws g r = runAt ws g (r .worklist) ≡ r
+-- a record with its whole index, its immediate seniors and its counts, at some turn of an elimination
+pub record Underway (ws index seniors : List ℕ) (turn : Turn) : Type 0 where
+  pub going : Going ws index seniors (turn .progress)
+  pub holders : AllHolders (rolesOf (stateOf ws)) index
+  pub listed : Stand (set128 (turn .worklist)) (stateOf ws .standing)
+  pub fewer : turn .progress .changed ≤ turn .progress .examined
+  pub quality-small : turn .progress .quality ≤ mostQuality
 
--- the roles of each user, and the roles that hold each permission
-pub record Searched (st : State) (roles holders : List ℕ) : Type 0 where
-  pub user-roles : Holds 2 (st .users) (rolesOfUser (rolesOf st)) roles
-  pub permission-roles : Holds 2 (st .permissions) (rolesOfPermission (rolesOf st)) holders
+-- from a record with the state st the machine has come to the run r, and a record of the same crew list and a turn hold it
+pub record Reached (st : State) (ws index seniors : List ℕ) (turn : Turn) (r : Run) : Type 0 where
+  pub underway : Underway ws index seniors turn
+  pub kin : Kin st ws
+  pub run : runIn ws turn ≡ r
+
+-- the same at the end, whatever is left of the worklist
+pub record Ended (st : State) (ws index seniors : List ℕ) (g : Progress) (r : Run) : Type 0 where
+  pub going : Going ws index seniors g
+  pub kin : Kin st ws
+  pub run : runAt ws g (r .worklist) ≡ r
+
+-- the work has these roles by their redundancies in the record, as a pass orders its worklist
+abbrev pub Ordered : List ℕ → List ℕ → ℕ → Type 0
+Ordered ws work worklist =
+    Keyed (candidateCount (rolesOf (stateOf ws))) (take 258 (drop ranksStart work)) worklist
+    (redundancy (rolesOf (stateOf ws)) (strikables (rolesOf (stateOf ws)) (stateOf ws .standing)))

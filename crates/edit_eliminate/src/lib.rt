@@ -4,4 +4,4 @@ mod pass;
 mod turn;
 
 pub use all::eliminate_all;
-pub use turn::Tolerance;
+pub use turn::Terms;

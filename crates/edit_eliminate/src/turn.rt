@@ -1,87 +1,100 @@
+// One role taken up.
 ghost use mathlib.Core.Path.{_≡_};
 ghost use mathlib.Core.Bool.{So};
-ghost use Prim.Native.Nat.{_+_, _≤_, _<_};
+ghost use Prim.Native.Nat.{_*_, _≤_, _<_};
+ghost use lib.Dec.{ltb};
 ghost use lib.ListN.{length};
-ghost use Rattle.sets.specs.Held.{set128};
 ghost use Rattle.sets.specs.Sets.{has};
-ghost use Rattle.model.specs.Machine.{takeUp};
-ghost use Rattle.model.specs.Quality.{weightsAllowed, toleranceAllowed};
+ghost use Rattle.model.specs.Quality.{toleranceAllowed};
 ghost use Rattle.model.specs.Record.{recordLength, stateOf};
 ghost use Rattle.model.specs.State.{rolesOf};
-ghost use Rattle.quality.specs.Numbers.{weightsIn, toleranceIn};
-ghost use Rattle.edit_trials.specs.Trying.{runAt, Kin, Going};
-ghost use Rattle.edit_eliminate.specs.Passing.{Searched};
-use edit_rows::removable;
+ghost use Rattle.indexes.specs.Index.{indexLength};
+ghost use Rattle.quality.specs.Numbers.{toleranceIn, mostQuality};
+ghost use Rattle.edit_eliminate.specs.Passing.{mostExamined, Allowed, takeUpBy, runIn, Underway, Reached};
 use edit_rows::take_out_at;
+use edit_test::removable;
 use edit_trials::Progress;
-use edit_trials::Weights;
 use edit_trials::if_struck;
+use quality::Tolerance;
+use quality::Weights;
 use quality::weigh;
 use sets::Set128;
 
-// The tolerance a/b.
-pub struct Tolerance {
-    pub numerator: u64,
-    pub denominator: u64,
+// The weights and the tolerance of an elimination.
+pub struct Terms {
+    pub weights: Weights,
+    pub tolerance: Tolerance,
 }
 
-// The progress and the worklist, after a role was taken up.
+// How far an elimination has come: the progress, and the worklist.
 pub struct Turn {
     pub progress: Progress,
     pub worklist: Set128,
 }
 
-// One role more was examined.
-fn examined(at: Progress) -> Progress
-    requires { ⌜ at .examined ≤ 100000 ⌝ }
-    ensures { λ r. ⌜ (r .counts ≡ at .counts) × (r .quality ≡ at .quality) × (r .changed ≡ at .changed) × (r .examined ≡ at .examined + 1) ⌝ }
+// Whether a strike that leaves this quality is within the tolerance of the quality that it is compared with.
+fn tolerated(t: Tolerance, quality: u64, reference: u64) -> bool
+    requires { ⌜ So (toleranceAllowed (toleranceIn t)) ⌝ }
+    requires { ⌜ quality ≤ mostQuality ⌝ }
+    requires { ⌜ reference ≤ mostQuality ⌝ }
+    ensures { λ r. ⌜ r ≡ ltb (t .denominator * quality) (t .numerator * reference) ⌝ }
 {
-    let counts = at.counts;
-    Progress {
-        counts,
-        quality: at.quality,
-        changed: at.changed,
-        examined: at.examined + 1,
-    }
+    t.denominator * quality < t.numerator * reference
 }
 
-// Takes up the standing role k. Where it is not removable it leaves the worklist; otherwise its strike is weighed, and it is taken out where the
+// Takes up the standing role k. Where it is not strikable it leaves the worklist; otherwise its strike is weighed, and it is taken out where the
 // quality is then within the tolerance.
 pub fn take_up(
     rec: &mut [u64],
-    low: &[u64],
-    roles: &[u64],
-    users: &[u64],
-    holders: &[u64],
-    w: Weights,
-    t: Tolerance,
+    index: &[u64],
+    seniors: &mut [u64],
+    terms: Terms,
     k: usize,
-    worklist: Set128,
-    at: Progress,
+    turn: Turn,
 ) -> Turn
-    requires { ⌜ (length (now rec) ≡ recordLength) × (length (now low) ≡ 256) × (length (now roles) ≡ 256) × (length (now users) ≡ 256) × (length (now holders) ≡ 512) × (k < 128) × Going (now rec) (now low) (now users) at × Searched (stateOf (now rec)) (now roles) (now holders) × So (has (stateOf (now rec) .standing) k) × So (weightsAllowed (weightsIn w)) × So (toleranceAllowed (toleranceIn t)) × (at .changed ≤ 100000) × (at .examined ≤ 100000) × (at .quality ≤ 100000000) ⌝ }
-    ensures { λ r. ⌜ Going (now (rec .exit)) (now (low .entry)) (now (users .entry)) (r .progress) × Kin (stateOf (now (rec .entry))) (now (rec .exit)) × (runAt (now (rec .exit)) (r .progress) (set128 (r .worklist)) ≡ takeUp (rolesOf (stateOf (now (rec .entry)))) (weightsIn w) (toleranceIn t) k (runAt (now (rec .entry)) at (set128 worklist))) × (r .progress .quality ≤ 100000000) ⌝ }
+    requires { ⌜ Underway (now rec) (now index) (now seniors) turn ⌝ }
+    requires { ⌜ Allowed terms ⌝ }
+    requires { ⌜ So (has (stateOf (now rec) .standing) k) ⌝ }
+    requires { ⌜ length (now rec) ≡ recordLength ⌝ }
+    requires { ⌜ length (now index) ≡ indexLength ⌝ }
+    requires { ⌜ length (now seniors) ≡ 256 ⌝ }
+    requires { ⌜ k < 128 ⌝ }
+    requires { ⌜ turn .progress .examined < mostExamined ⌝ }
+    ensures { λ r. ⌜ Reached (stateOf (now (rec .entry))) (now (rec .exit)) (now (index .entry)) (now (seniors .exit)) r (takeUpBy (rolesOf (stateOf (now (rec .entry)))) terms k (runIn (now (rec .entry)) turn)) ⌝ }
 {
-    if !removable(rec, roles, holders, k) {
-        let progress = examined(at);
-        let worklist = worklist.remove(k);
-        return Turn { progress, worklist };
-    }
+    let at = turn.progress;
+    let worklist = turn.worklist;
     let before = at.counts;
-    let strike = if_struck(rec, low, users, before, k);
-    let counts = strike.counts;
-    let quality = weigh(counts, w.role, w.member, w.permission, w.link);
-    if t.denominator * quality < t.numerator * at.quality {
-        take_out_at(rec, low, users, k, strike.seniors, strike.juniors);
-        let progress = Progress {
+    let examined = at.examined + 1;
+    let unstruck = Progress {
+        counts: before,
+        quality: at.quality,
+        changed: at.changed,
+        examined,
+    };
+    if !removable(rec, index, k) {
+        return Turn {
+            progress: unstruck,
+            worklist: worklist.remove(k),
+        };
+    }
+    let trial = if_struck(rec, index, seniors, before, k);
+    let counts = trial.counts;
+    let quality = weigh(counts, terms.weights);
+    if !tolerated(terms.tolerance, quality, at.quality) {
+        return Turn {
+            progress: unstruck,
+            worklist,
+        };
+    }
+    take_out_at(rec, index, seniors, k, trial.above, trial.below);
+    Turn {
+        progress: Progress {
             counts,
             quality,
             changed: at.changed + 1,
-            examined: at.examined + 1,
-        };
-        let worklist = worklist.remove(k);
-        return Turn { progress, worklist };
+            examined,
+        },
+        worklist: worklist.remove(k),
     }
-    let progress = examined(at);
-    Turn { progress, worklist }
 }

@@ -17,8 +17,10 @@ use Rattle.model.specs.State.{State, fresh, withinLimits, rowsWithin}
 use Rattle.model.specs.Record.{recordLength, built, stateOf, sound}
 use Rattle.model.specs.Calls.{Mined, miningRefusal, mine}
 use Rattle.model.proofs.Lists.{length-rowsAt, tabulate-same, setAt-same}
-use Rattle.model.proofs.Record.{withinLimits-iff, rowsWithin-iff, state-back}
-use Rattle.model.proofs.Steps.{Fit, fresh-fit, after-fit}
+use Rattle.model.proofs.Record.{withinLimits-iff, state-back}
+use Rattle.model.proofs.Refusals.{mining-iff, mining-is-4}
+use Rattle.model.proofs.Steps.{Fit, after-fit, mining-fit}
+use Rattle.model.proofs.Calls.{mine-code, mine-accepted}
 use Rattle.model.proofs.Claim.{fit-sound}
 use Rattle.text_crew.specs.declared.CrewRead.{CrewRead}
 use Rattle.text_crew.specs.declared.header.Header.{Header}
@@ -29,7 +31,7 @@ use Rattle.text_crew.proofs.Laid.{length-laid}
 use Rattle.text_crew.proofs.Canonical.{Accepted, accepted, words-hold}
 use Rattle.stores.specs.Stores.{putAt}
 use Rattle.call_mine.specs.declared.MineAnswer.{MineAnswer}
-use Rattle.call_mine.specs.Answers.{mined}
+use Rattle.call_mine.specs.Results.{mineResult}
 use Rattle.listing.specs.Listing.{Printable, settled, refusedText, rolesText, listed, listing}
 
 -- ---- mining a crew list that was read
@@ -39,38 +41,19 @@ module _ (n m : ℕ) (crew ws : List ℕ) (full : length ws ≡ recordLength) (o
   abbrev rows : List ℕ
   rows = rowsAt n crew 0
 
-  mining-rest : miningRefusal n m crew ws ≡ (if isnt (leb (length (candidates rows)) 128) then 4 else 0)
-  unfolding miningRefusal
-  mining-rest =
-      if-passes (eqb (length ws) recordLength) 1 _ (eqb-iff (length ws) recordLength .1 full) ∙ if-passes (withinLimits n m) 2 _ ok
-      ∙ if-passes (eqb (length crew) (4 * n) and rowsWithin m rows) 3 _
-      (and-iff (eqb (length crew) (4 * n)) (rowsWithin m rows) .1 (eqb-iff (length crew) (4 * n) .1 size, inside))
-
   few-code : So (leb (length (candidates rows)) 128) → miningRefusal n m crew ws ≡ 0
-  few-code t = mining-rest ∙ if-passes (leb (length (candidates rows)) 128) 4 0 t
+  few-code t = mining-iff n m crew ws .1 (full, ok, (size, inside), leb-iff (length (candidates rows)) 128 .0 t)
+
+  more-than : leb (length (candidates rows)) 128 ≡ false → 128 < length (candidates rows)
+  more-than t = not-le-lt (λ l. So-not t (leb-iff (length (candidates rows)) 128 .1 l))
 
   many-code : leb (length (candidates rows)) 128 ≡ false → miningRefusal n m crew ws ≡ 4
-  many-code t = mining-rest ∙ if-stops (leb (length (candidates rows)) 128) 4 0 t
+  many-code t = mining-is-4 n m crew ws full ok (size, inside) (more-than t)
 
-  mine-code : mine n m crew ws .code ≡ miningRefusal n m crew ws
-  unfolding mine
-  mine-code =
-      let t = eqb (miningRefusal n m crew ws) 0 in
-      by-test t (λ y. ap (λ (x : Mined). x .code) (if-true t _ _ y) ∙ sym (eqb-iff (miningRefusal n m crew ws) 0 .0 y))
-      (λ y. ap (λ (x : Mined). x .code) (if-false t _ _ y))
-
-  mine-words : miningRefusal n m crew ws ≡ 0 → mine n m crew ws .words ≡ built (fresh n m rows)
-  unfolding mine
-  mine-words e = ap (λ (x : Mined). x .words) (if-true (eqb (miningRefusal n m crew ws) 0) _ _ (eqb-iff (miningRefusal n m crew ws) 0 .1 e))
-
-  module _ (r : MineAnswer) (ws' : List ℕ) (p : mined r ws' ≡ mine n m crew ws) where
+  module _ (r : MineAnswer) (ws' : List ℕ) (p : mineResult r ws' ≡ mine n m crew ws) where
     code-is : r .code ≡ miningRefusal n m crew ws
-    unfolding mined
-    code-is = ap (λ (x : Mined). x .code) p ∙ mine-code
-
-    words-are : ws' ≡ mine n m crew ws .words
-    unfolding mined
-    words-are = ap (λ (x : Mined). x .words) p
+    unfolding mineResult
+    code-is = ap (λ (x : Mined). x .code) p ∙ mine-code n m crew ws
 
     -- refused: that is 4
     pub crew-refused : r .code ≢ 0 → refusedText (r .code) ≡ listed n m rows
@@ -81,19 +64,15 @@ module _ (n m : ℕ) (crew ws : List ℕ) (full : length ws ≡ recordLength) (o
         (λ y. ap refusedText (code-is ∙ many-code y) ∙ sym (if-false t (rolesText (settled (fresh n m rows))) (refusedText 4) y))
 
     few : r .code ≡ 0 → So (leb (length (candidates rows)) 128)
-    few z =
-        let t = leb (length (candidates rows)) 128 in
-        by-test t (λ y. y) (λ y. let w : 4 ≡ 0 = sym (many-code y) ∙ sym code-is ∙ z in absurd (let v : ⊥ = omega arith in v))
+    few z = leb-iff (length (candidates rows)) 128 .1 (mining-iff n m crew ws .0 (sym code-is ∙ z) .3)
 
     -- mined: the record holds the fresh state
     pub crew-mined : r .code ≡ 0 → ws' ≡ built (fresh n m rows)
-    crew-mined z = words-are ∙ mine-words (sym code-is ∙ z)
+    unfolding mineResult
+    crew-mined z = ap (λ (x : Mined). x .words) (p ∙ mine-accepted n m crew ws (sym code-is ∙ z))
 
     pub crew-fit : r .code ≡ 0 → Fit (fresh n m rows)
-    crew-fit z =
-        let k = withinLimits-iff n m .0 ok in
-        fresh-fit n m rows (k .0) (k .1) (k .2) (k .3) (length-rowsAt n crew 0)
-        (λ u l. rowsWithin-iff m rows .0 inside u (rw (length-rowsAt n crew 0) l)) (leb-iff (length (candidates rows)) 128 .0 (few z))
+    crew-fit z = mining-fit n m crew ws (sym code-is ∙ z)
 
     pub crew-sound : r .code ≡ 0 → So (sound ws')
     crew-sound z = rw (crew-mined z) (fit-sound (fresh n m rows) (crew-fit z))

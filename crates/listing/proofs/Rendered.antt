@@ -23,7 +23,9 @@ use Rattle.model.specs.Claim.{wordsAfter}
 use Rattle.model.specs.Calls.{Edited, Told, edit, unfit, told, qualityOf}
 use Rattle.model.proofs.Record.{sound-iff, read-users, read-permissions, read-count, read-set, rows-back}
 use Rattle.model.proofs.Bounds.{weightsAllowed-iff}
-use Rattle.model.proofs.Refusals.{unfit-iff}
+use Rattle.model.specs.Conditions.{QualityConditions}
+use Rattle.model.proofs.Refusals.{fit-then, weights-check}
+use Rattle.model.proofs.Calls.{told-code}
 use Rattle.model.proofs.Claim.{claim}
 use Rattle.indexes.proofs.Sources.{narrow}
 use Rattle.quality.specs.Numbers.{weightsOf, toleranceOf}
@@ -31,9 +33,9 @@ use Rattle.stores.specs.Stores.{putAt}
 use Rattle.call_eliminate.specs.declared.EliminateAnswer.{EliminateAnswer}
 use Rattle.call_review.specs.declared.ReviewAnswer.{ReviewAnswer}
 use Rattle.call_quality.specs.declared.QualityAnswer.{QualityAnswer}
-use Rattle.call_eliminate.specs.Answers.{eliminateGiven}
-use Rattle.call_review.specs.Answers.{reviewGiven}
-use Rattle.call_quality.specs.Answers.{qualityTold}
+use Rattle.call_eliminate.specs.Results.{eliminateResult}
+use Rattle.call_review.specs.Results.{reviewResult}
+use Rattle.call_quality.specs.Results.{qualityResult}
 use Rattle.listing.specs.Listing.{plainWeights, plainTolerance, settled, line, linesTo, headLine, roleLine, rolesText}
 use Rattle.listing.specs.Words.{Limited, wordsLine, wordsLines}
 use Rattle.listing.proofs.Puts.{Put, put-then, put-same, lines-most}
@@ -41,9 +43,9 @@ use Rattle.listing.proofs.Puts.{Put, put-then, put-same, lines-most}
 -- ---- elimination and review
 
 pub settle-is : (ws ws1 ws2 : List ℕ) (e : EliminateAnswer) (r : ReviewAnswer) → So (sound ws)
-    → eliminateGiven e ws1 ≡ edit ws (eliminate (weightsOf 1 1 1 1) (toleranceOf 1 1)) → reviewGiven r ws2 ≡ edit ws1 (review (weightsOf 1 1 1 1))
+    → eliminateResult e ws1 ≡ edit ws (eliminate (weightsOf 1 1 1 1) (toleranceOf 1 1)) → reviewResult r ws2 ≡ edit ws1 (review (weightsOf 1 1 1 1))
     → ws2 ≡ built (settled (stateOf ws))
-unfolding eliminateGiven reviewGiven weightsOf toleranceOf plainWeights plainTolerance settled wordsAfter
+unfolding eliminateResult reviewResult weightsOf toleranceOf plainWeights plainTolerance settled wordsAfter
 settle-is ws ws1 ws2 e r h p q =
     let a : ws1 ≡ edit ws (eliminate plainWeights plainTolerance) .words = ap (λ (x : Edited). x .words) p in
     let b : ws2 ≡ edit ws1 (review plainWeights) .words = ap (λ (x : Edited). x .words) q in
@@ -108,25 +110,11 @@ plain-allowed : So (weightsAllowed (weightsOf 1 1 1 1))
 unfolding weightsOf
 plain-allowed = weightsAllowed-iff (weightsOf 1 1 1 1) .1 (omega arith, omega arith, omega arith, omega arith)
 
-told-value : (code v : ℕ) → code ≡ 0 → told code v .value ≡ v
-unfolding told
-told-value code v e = ap (λ (t : Told). t .value) (if-true (eqb code 0) _ _ (eqb-iff code 0 .1 e))
-
-sound-quality : (ws : List ℕ) (w : Weights) → So (sound ws) → So (weightsAllowed w)
-    → qualityOf ws w .value ≡ weigh w (counted (candidateCount (rolesOf (stateOf ws))) (roleRowsOf ws) (stateOf ws .standing))
-unfolding qualityOf
-sound-quality ws w h ok =
-    told-value _ _ (if-passes (eqb (unfit ws) 0) (unfit ws) _ (eqb-iff (unfit ws) 0 .1 (unfit-iff ws .1 h)) ∙ if-passes (weightsAllowed w) 9 0 ok)
-
-pub quality-is : (ws : List ℕ) (r : QualityAnswer) → So (sound ws) → qualityTold r ≡ qualityOf ws (weightsOf 1 1 1 1)
+pub quality-is : (ws : List ℕ) (r : QualityAnswer) → So (sound ws) → qualityResult r ≡ qualityOf ws (weightsOf 1 1 1 1) → QualityConditions ws (weightsOf 1 1 1 1) (qualityResult r)
     → r .quality ≡ quality (rolesOf (stateOf ws)) plainWeights (stateOf ws .standing)
-unfolding qualityTold quality counts weightsOf plainWeights
-quality-is ws r h e =
-    let s = sound-iff ws .0 h in
-    let st = stateOf ws in
-    let b : roleRowsOf ws ≡ building (rolesOf st) (st .standing) = ap roleRowsOf (s .3) ∙ rows-back st (s .1) in
-    ap (λ (t : Told). t .value) e ∙ sound-quality ws (weightsOf 1 1 1 1) h plain-allowed
-    ∙ ap (λ (x : RoleRows). weigh plainWeights (counted (candidateCount (rolesOf st)) x (st .standing))) b
+unfolding qualityResult qualityOf weightsOf plainWeights stateOf
+quality-is ws r h e given =
+    given .condition2 (ap (λ (t : Told). t .code) e ∙ told-code _ _ ∙ fit-then ws _ h ∙ weights-check (weightsOf 1 1 1 1) .passes plain-allowed)
 
 pub count-is : (ws : List ℕ) (n s : ℕ) → n ≡ ones s → s ≡ setAt 2 ws 4 → n ≡ ones (stateOf ws .standing)
 unfolding stateOf

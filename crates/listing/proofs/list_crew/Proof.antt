@@ -24,28 +24,28 @@ same-length c = search needs
 
 returns : tie.Need-returns
 returns c =
-    listed-put _ _ _ _ _ (crew-refused _ _ _ _ (length-replicate {A = ℕ} recordLength 0) (c .before .before .before .before .before .before .before .before .before .before .before .pre .0) (c .before .before .before .before .before .before .before .before .before .before .before .pre .1) (c .before .before .before .before .before .before .before .before .before .before .before .pre .2) _ _ (c .before .before .before .before .before .before .before .panel-mine .ensures) (c .before .before .before .before .if1 .taken)) (c .before .before .put-refused .ensures)
+    listed-put _ _ _ _ _ (crew-refused _ _ _ _ (length-replicate {A = ℕ} recordLength 0) (c .before .before .before .before .before .before .before .before .before .before .before .pre .0) (c .before .before .before .before .before .before .before .before .before .before .before .pre .1) (c .before .before .before .before .before .before .before .before .before .before .before .pre .2) _ _ (c .before .before .before .before .before .before .before .panel-mine .ensures .0) (c .before .before .before .before .if1 .taken)) (c .before .before .put-refused .ensures)
 
 slice-aggregate-settle : tie.Need-slice-aggregate-settle
 slice-aggregate-settle c = search needs
 
 settle-requires : tie.Need-settle-requires
 settle-requires c κs =
-    crew-sound _ _ _ _ (length-replicate {A = ℕ} recordLength 0) (c .before .before .before .before .before .before .before .before .pre .0) (c .before .before .before .before .before .before .before .before .pre .1) (c .before .before .before .before .before .before .before .before .pre .2) _ _ (c .before .before .before .before .panel-mine .ensures) (c .before .if1 .left)
+    crew-sound _ _ _ _ (length-replicate {A = ℕ} recordLength 0) (c .before .before .before .before .before .before .before .before .pre .0) (c .before .before .before .before .before .before .before .before .pre .1) (c .before .before .before .before .before .before .before .before .pre .2) _ _ (c .before .before .before .before .panel-mine .ensures .0) (c .before .if1 .left)
 
 slice-aggregate-put-roles : tie.Need-slice-aggregate-put-roles
 slice-aggregate-put-roles c = search needs
 
 put-roles-requires : tie.Need-put-roles-requires
 put-roles-requires c κs =
-    (settled-sound _ _ _ _ (length-replicate {A = ℕ} recordLength 0) (c .before .before .before .before .before .before .before .before .before .before .before .before .pre .0) (c .before .before .before .before .before .before .before .before .before .before .before .before .pre .1) (c .before .before .before .before .before .before .before .before .before .before .before .before .pre .2) _ _ (c .before .before .before .before .before .before .before .before .panel-mine .ensures) _ (c .before .before .before .before .before .if1 .left) (c .before .before .before .settle .ensures), omega arith)
+    (settled-sound _ _ _ _ (length-replicate {A = ℕ} recordLength 0) (c .before .before .before .before .before .before .before .before .before .before .before .before .pre .0) (c .before .before .before .before .before .before .before .before .before .before .before .before .pre .1) (c .before .before .before .before .before .before .before .before .before .before .before .before .pre .2) _ _ (c .before .before .before .before .before .before .before .before .panel-mine .ensures .0) _ (c .before .before .before .before .before .if1 .left) (c .before .before .before .settle .ensures), omega arith)
 
 same-length-2 : tie.Need-same-length-2
 same-length-2 c = search needs
 
 returns-2 : tie.Need-returns-2
 returns-2 c =
-    listed-put _ _ _ _ _ (settled-listed _ _ _ _ (length-replicate {A = ℕ} recordLength 0) (c .before .before .before .before .before .before .before .before .before .before .before .before .before .before .before .pre .0) (c .before .before .before .before .before .before .before .before .before .before .before .before .before .before .before .pre .1) (c .before .before .before .before .before .before .before .before .before .before .before .before .before .before .before .pre .2) _ _ (c .before .before .before .before .before .before .before .before .before .before .before .panel-mine .ensures) _ (c .before .before .before .before .before .before .before .before .if1 .left) (c .before .before .before .before .before .before .settle .ensures)) (c .before .before .put-roles .ensures)
+    listed-put _ _ _ _ _ (settled-listed _ _ _ _ (length-replicate {A = ℕ} recordLength 0) (c .before .before .before .before .before .before .before .before .before .before .before .before .before .before .before .pre .0) (c .before .before .before .before .before .before .before .before .before .before .before .before .before .before .before .pre .1) (c .before .before .before .before .before .before .before .before .before .before .before .before .before .before .before .pre .2) _ _ (c .before .before .before .before .before .before .before .before .before .before .before .panel-mine .ensures .0) _ (c .before .before .before .before .before .before .before .before .if1 .left) (c .before .before .before .before .before .before .settle .ensures)) (c .before .before .put-roles .ensures)
 
 pub list-crew-spec : {M : Type 1} → statement M
 list-crew-spec =

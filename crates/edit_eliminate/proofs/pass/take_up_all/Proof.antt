@@ -1,66 +1,84 @@
 -- The roles that are not in `todo` are taken up.
 -- Assumes nothing.
 use borrow.Author.Needs.{needs}
-use mathlib.Core.Path.{_≡_}
+use mathlib.Core.Path.{_≡_, refl}
 use native.Mathlib.Omega.{arith}
 use lib.Count.{ones}
 use lib.ListN.{length}
 use Rattle.sets.specs.Held.{set128}
 use Rattle.hierarchy.proofs.Sieving.{fewer, not-empty, is-empty}
 use Rattle.model.specs.Record.{recordLength}
-use Rattle.quality.specs.Numbers.{weightsIn, toleranceIn}
-use Rattle.edit_eliminate.proofs.Taking.{Taking, taking-start, taking-bound, taking-more, taking-all, stand-few, searched-kin}
+use Rattle.stores.proofs.Stores.{part-back}
+use Rattle.edit_eliminate.proofs.Taking.{Taking, taking-start, taking-bound, taking-more, taking-all}
 use Rattle.edit_eliminate.proofs.pass.take_up_all.Statement.{statement}
 use Rattle.edit_eliminate.proofs.pass.take_up_all.Tie as tie
 
 abbrev Inv-loop : tie.InvT-loop
-Inv-loop rec₀ low roles users holders ranks w t progress₀ list₀ todo₀ top₀ rec progress list todo top =
-    (length rec ≡ recordLength) × Taking rec₀ low users ranks (weightsIn w) (toleranceIn t) progress₀ (set128 todo₀) rec progress (set128 list) (set128 todo) top
+Inv-loop rec₀ index work₀ terms run₀ todo₀ top₀ rec work run todo top =
+    (length rec ≡ recordLength) × Taking rec₀ index terms run₀ rec work run (set128 todo) top
 
 abbrev μ-loop : tie.MeasureT-loop
-μ-loop rec₀ low roles users holders ranks w t progress₀ list₀ todo₀ top₀ rec progress list todo top = ones (set128 todo)
+μ-loop rec₀ index work₀ terms run₀ todo₀ top₀ rec work run todo top = ones (set128 todo)
+
+slice-read-top : tie.Need-slice-read-top Inv-loop μ-loop
+slice-read-top c = search needs
 
 loop-holds : tie.Need-loop-holds Inv-loop μ-loop
-loop-holds c = let pre = c .before .before .before .before .before .before .pre in (search needs, taking-start _ _ _ _ _ _ _ _ (pre .6) (pre .8) (pre .13))
+loop-holds c = let given = c .before .before .before .before .before .pre in (search needs, taking-start _ _ _ _ _ _ refl (given .0) (given .1 .1 .0) (given .1 .1 .1 .0))
 
 is-empty-requires : tie.Need-is-empty-requires Inv-loop μ-loop
 is-empty-requires c κs = search needs
 
+sub-foremost : tie.Need-sub-foremost Inv-loop μ-loop
+sub-foremost c = search needs
+
+part-foremost-start : tie.Need-part-foremost-start Inv-loop μ-loop
+part-foremost-start c = search needs
+
+part-foremost-end : tie.Need-part-foremost-end Inv-loop μ-loop
+part-foremost-end c = search needs
+
 foremost-requires : tie.Need-foremost-requires Inv-loop μ-loop
-foremost-requires c κs = (c .before .before .before .before .before .before .before .before .before .pre .5, not-empty _ _ (c .before .is-empty .ensures) (c .if1 .taken), c .before .before .loop .inv .1 .small)
+foremost-requires c κs =
+    (search needs, (not-empty _ _ (c .before .before .before .is-empty .ensures) (c .before .before .if1 .taken), c .before .before .before .before .loop .inv .1 .small))
+
+sub-take-up : tie.Need-sub-take-up Inv-loop μ-loop
+sub-take-up c = search needs
+
+part-take-up-start : tie.Need-part-take-up-start Inv-loop μ-loop
+part-take-up-start c = search needs
+
+part-take-up-end : tie.Need-part-take-up-end Inv-loop μ-loop
+part-take-up-end c = search needs
 
 take-up-requires : tie.Need-take-up-requires Inv-loop μ-loop
 take-up-requires c κs =
-    let pre = c .before .before .before .before .before .before .before .before .before .before .before .pre in
-    let inv = c .before .before .before .before .loop .inv .1 in
-    let b = taking-bound _ _ _ _ _ _ _ _ _ _ _ _ _ inv in
-    let n = stand-few _ _ _ _ (pre .6 .ready) (pre .8) in
-    let x = b .0 in
-    let y = b .1 in
-    let p = pre .11 in
-    let q = pre .12 in
-    (c .before .before .before .before .loop .inv .0, pre .1, pre .2, pre .3, pre .4, c .before .foremost .ensures .0, inv .going, searched-kin _ _ _ _ (pre .7) (inv .kin), inv .standing _ (c .before .foremost .ensures .1), pre .9, pre .10, omega arith, omega arith, inv .quality)
+    let given = c .before .before .before .before .before .before .before .before .before .before .before .before .before .pre in
+    let inv = c .before .before .before .before .before .before .before .loop .inv in
+    let next = c .before .before .foremost .ensures in
+    (inv .1 .underway, (given .1 .0, (inv .1 .standing _ (next .there), (inv .0, (search needs, (search needs, (next .small, taking-bound _ _ _ _ _ _ _ _ _ (inv .1) _ _ (next .there) (given .0) (given .1 .1 .1 .1 .1 .1 .1))))))))
 
 remove-requires : tie.Need-remove-requires Inv-loop μ-loop
 remove-requires c κs = search needs
 
 loop-less : tie.Need-loop-less Inv-loop μ-loop
-loop-less c = rw (c .remove .ensures) (fewer _ _ (c .before .before .before .before .before .before .before .foremost .ensures .1))
+loop-less c = rw (c .remove .ensures) (fewer _ _ (c .before .before .before .before .before .before .before .before .foremost .ensures .there))
 
 loop-again : tie.Need-loop-again Inv-loop μ-loop
 loop-again c =
-    let inv = c .before .before .before .before .before .before .before .before .before .before .loop .inv in
-    let front = c .before .before .before .before .before .before .before .foremost .ensures in
-    let length-kept = c .before .before .before .before .before .take-up .kept in
-    (let l = inv .0 in omega arith, taking-more _ _ _ _ _ _ _ _ _ _ _ _ _ (inv .1) _ _ (front .1) (front .2) (front .3) _ _ _ _ (c .before .before .before .before .before .take-up .ensures) (c .remove .ensures))
+    let front = c .before .before .before .before .before .before .before .before in
+    let turn = c .before .before .before .before .before .take-up in
+    let inv = front .before .before .before .before .before .loop .inv .1 in
+    (search needs, taking-more _ _ _ _ _ _ _ _ _ inv _ _ (front .foremost .ensures) _ _ _ _ _ (turn .ensures) (part-back _ 0 256 _ (turn .ensures .underway .going .ready .linked .size) (rw (inv .prepared .size) (omega arith))) (c .remove .ensures))
 
 same-length : tie.Need-same-length Inv-loop μ-loop
-same-length c = omega arith
+same-length c = search needs
+
+same-length-2 : tie.Need-same-length-2 Inv-loop μ-loop
+same-length-2 c = search needs
 
 returns : tie.Need-returns Inv-loop μ-loop
-returns c =
-    let inv = c .before .before .loop .inv .1 in
-    (inv .going, inv .kin, taking-all _ _ _ _ _ _ _ _ _ _ _ _ _ inv (is-empty _ _ (c .before .is-empty .ensures) (c .if1 .left)), inv .listed, inv .quality)
+returns c = taking-all _ _ _ _ _ _ _ _ _ (c .before .before .loop .inv .1) (is-empty _ _ (c .before .is-empty .ensures) (c .if1 .left))
 
 pub take-up-all-spec : {M : Type 1} → statement M
 take-up-all-spec =
@@ -68,12 +86,20 @@ take-up-all-spec =
     (tie.spec
     Inv-loop
     μ-loop
+    slice-read-top
     loop-holds
     is-empty-requires
+    sub-foremost
+    part-foremost-start
+    part-foremost-end
     foremost-requires
+    sub-take-up
+    part-take-up-start
+    part-take-up-end
     take-up-requires
     remove-requires
     loop-less
     loop-again
     same-length
+    same-length-2
     returns)

@@ -26,7 +26,7 @@ same-length c = search needs
 
 returns : tie.Need-returns
 returns c =
-    roles-put _ _ _ _ _ _ _ _ (c .before .before .before .before .before .before .before .before .before .before .before .before .before .pre .0) (count-is _ _ _ (c .before .before .before .before .before .before .before .before .count .ensures) (c .before .before .before .before .before .before .before .before .before .load128 .ensures)) (quality-is _ _ (c .before .before .before .before .before .before .before .before .before .before .before .before .before .pre .0) (c .before .before .before .before .before .before .before .before .before .before .panel-quality .ensures)) (c .before .before .before .before .before .before .put-head .ensures) (c .before .before .put-lines .ensures)
+    roles-put _ _ _ _ _ _ _ _ (c .before .before .before .before .before .before .before .before .before .before .before .before .before .pre .0) (count-is _ _ _ (c .before .before .before .before .before .before .before .before .count .ensures) (c .before .before .before .before .before .before .before .before .before .load128 .ensures)) (quality-is _ _ (c .before .before .before .before .before .before .before .before .before .before .before .before .before .pre .0) (c .before .before .before .before .before .before .before .before .before .before .panel-quality .ensures .0) (c .before .before .before .before .before .before .before .before .before .before .panel-quality .ensures .1)) (c .before .before .before .before .before .before .put-head .ensures) (c .before .before .put-lines .ensures)
 
 pub put-roles-spec : {M : Type 1} → statement M
 put-roles-spec =
