@@ -26,7 +26,7 @@ use Rattle.indexes.proofs.Sources.{numbered}
 use Rattle.hierarchy.specs.Tables.{Numbered}
 use Rattle.rows.specs.Linked.{Ready}
 use Rattle.rows.proofs.Linking.{reindexed}
-use Rattle.quality.specs.declared.counts.Counts.{Counts}
+use Rattle.quality.specs.declared.weights.Weights.{Weights}
 use Rattle.quality.specs.Numbers.{countsIn, weightsIn, toleranceIn, mostQuality}
 use Rattle.edit_trials.specs.Trying.{runAt, Exact, Kin}
 use Rattle.edit_trials.proofs.Runs.{roles-count, ready-few, kin-same, kin-trans, kin-roles}
@@ -141,3 +141,45 @@ module _ (ws index : List ℕ) (terms : Terms) where
               room = omega arith;
               rest = one-more ∙ passes-more ρ (takeUpBy ρ terms) (left - 1) (runIn mid turn) listed (λ e. d (ap (λ (x : Run). x .changed) next-run ∙ e)) ∙ ap (passes ρ (takeUpBy ρ terms) (left - 1)) (sym next-run);
             }
+
+-- ---- the start: a record with its index, in which the code then fills the holders of all permissions
+
+module _ (ws index seniors : List ℕ) (ready : Ready (stateOf ws) ws index seniors) where
+  pub sizes-small : (getD ws 1 0 ≤ 256) × (getD ws 2 0 ≤ 128)
+  unfolding stateOf
+  sizes-small = (ready .limits .permissions-most, ready-few ws index seniors ready)
+
+  pub all-held : (index' : List ℕ) (m s : ℕ) → m ≡ getD ws 1 0 → s ≡ collect 256 (λ i. ltb i m) → ((st : State) → Limits st → ws ≡ built st → HoldersFor (rolesOf st) s index')
+      → AllHolders (rolesOf (stateOf ws)) index'
+  unfolding stateOf rolesOf
+  all-held index' m s em es filled p l =
+      let most = ready .limits .permissions-most in
+      filled (stateOf ws) (ready .limits) (ready .afresh) p (rw es (collect-iff 256 (λ i. ltb i m) p .1 (omega arith, ltb-iff p m .1 (rw em l))))
+
+  module _ (index' : List ℕ) (indexed : Indexed (rolesOf (stateOf ws)) index') (held : AllHolders (rolesOf (stateOf ws)) index') where
+    pub first-turn : (w : Weights) (turn : Turn) → Exact ws (turn .progress .counts)
+        → turn .progress .quality ≡ model.weigh (weightsIn w) (countsIn (turn .progress .counts)) → turn .progress .quality ≤ mostQuality
+        → turn .progress .changed ≡ 0 → turn .progress .examined ≡ 0 → Found ws index' (set128 (turn .worklist))
+        → Underway ws index' seniors turn
+        × (runIn ws turn ≡ begin (rolesOf (stateOf ws)) (weightsIn w) (strikables (rolesOf (stateOf ws)) (stateOf ws .standing)) (stateOf ws .standing))
+    unfolding runIn runAt begin model.quality
+    first-turn w turn exact eq small ec ee found =
+        let listed = found (stateOf ws) (ready .limits) (ready .afresh) indexed held in
+        let reference = eq ∙ ap (model.weigh (weightsIn w)) exact in (
+          record {
+            going = record { ready = reindexed (stateOf ws) ws index index' seniors ready indexed; exact = exact };
+            holders = held;
+            listed = rw listed (λ i h. strikable-stands (rolesOf (stateOf ws)) (stateOf ws .standing) i (strikables-iff (rolesOf (stateOf ws)) (stateOf ws .standing) i .0 h .1));
+            fewer = omega arith;
+            quality-small = small;
+          },
+          λ i. record { standing = stateOf ws .standing; worklist = listed i; reference = reference i; changed = ec i; examined = ee i },
+        )
+
+    -- what the order of each pass is computed from
+    pub all-prepared : (work' : List ℕ) (m c : ℕ) → m ≡ getD ws 1 0 → c ≡ getD ws 2 0
+        → ((ρ : Roles) → candidateCount ρ ≡ c → ρ .permissions ≡ m → Numbered ρ → Indexed ρ index' → AllHolders ρ index' → Prepared ρ work')
+        → Prepared (rolesOf (stateOf ws)) work'
+    unfolding stateOf rolesOf
+    all-prepared work' m c em ec told =
+        told (rolesOf (stateOf ws)) (roles-count ws index seniors ready ∙ sym ec) (sym em) (numbered (stateOf ws) (ready .limits)) indexed held

@@ -29,12 +29,11 @@ use Rattle.indexes.specs.Index.{Indexed, HoldersFor}
 use Rattle.rows.specs.Linked.{Ready}
 use Rattle.quality.specs.declared.counts.Counts.{Counts}
 use Rattle.quality.specs.declared.weights.Tolerance.{Tolerance}
-use Rattle.quality.specs.Numbers.{countsIn, weightsIn, toleranceIn, mostQuality, Few}
-use Rattle.edit_rows.specs.Neighbours.{Neighbours}
+use Rattle.quality.specs.Numbers.{countsIn, weightsIn, toleranceIn, mostQuality}
 use Rattle.edit_trials.specs.declared.progress.Progress.{Progress}
 use Rattle.edit_trials.specs.declared.trial.Trial.{Trial}
 use Rattle.edit_trials.specs.Trying.{runAt, Kin, Going, Tried}
-use Rattle.edit_trials.proofs.Runs.{kin-same, kin-now, kin-roles, strike-below, trial-few, trial-state, trial-going}
+use Rattle.edit_trials.proofs.Runs.{kin-same, kin-now, kin-roles, strike-below, trial-state, trial-going}
 use Rattle.edit_eliminate.specs.declared.turn.Terms.{Terms}
 use Rattle.edit_eliminate.specs.declared.turn.Turn.{Turn}
 use Rattle.edit_eliminate.specs.Passing.{takeUpBy, runIn, Stand, Underway, Reached}

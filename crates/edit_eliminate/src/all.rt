@@ -24,7 +24,13 @@ use sets::Set256;
 
 // Passes, from the strikable roles on, while the worklist is not empty and the pass before struck something. Each before the last strikes a role, so
 // c + 1 are enough.
-fn run_passes(rec: &mut [u64], index: &[u64], work: &mut [u64], terms: Terms, turn: Turn) -> Progress
+fn run_passes(
+    rec: &mut [u64],
+    index: &[u64],
+    work: &mut [u64],
+    terms: Terms,
+    turn: Turn,
+) -> Progress
     requires { ⌜ Underway (now rec) (now index) (take downStart (now work)) turn ⌝ }
     requires { ⌜ Allowed terms ⌝ }
     requires { ⌜ Prepared (rolesOf (stateOf (now rec))) (now work) ⌝ }

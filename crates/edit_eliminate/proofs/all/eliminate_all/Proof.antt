@@ -1,0 +1,127 @@
+-- The holders are filled, and the quality at the start is that of the record; where no role is strikable it is the end already.
+-- Assumes nothing.
+use borrow.Author.Needs.{needs}
+use mathlib.Core.Path.{_≡_, refl, sym, _∙_}
+use lib.ListN.{take}
+use Rattle.sets.proofs.Truth.{eqb-iff}
+use Rattle.model.specs.Coverage.{strikables}
+use Rattle.model.specs.Machine.{begin}
+use Rattle.model.specs.Record.{stateOf}
+use Rattle.model.specs.State.{rolesOf}
+use Rattle.indexes.specs.Index.{Indexed, AllHolders}
+use Rattle.quality.specs.Numbers.{weightsIn}
+use Rattle.edit_trials.proofs.Runs.{ready-few, ready-weighed}
+use Rattle.edit_order.specs.Work.{downStart}
+use Rattle.edit_eliminate.specs.declared.turn.Turn.{Turn}
+use Rattle.edit_eliminate.specs.Passing.{runIn, Underway}
+use Rattle.edit_eliminate.proofs.Running.{ended-at-once, sizes-small, all-held, first-turn, all-prepared}
+use Rattle.edit_eliminate.proofs.all.eliminate_all.Statement.{statement}
+use Rattle.edit_eliminate.proofs.all.eliminate_all.Tie as tie
+
+abbrev start : tie.After-fill-holders → tie.Start
+start c = c .before .before .before .before .before .before .before .before .before
+
+-- the index with the holders of all permissions
+held : (c : tie.After-fill-holders) → Indexed (rolesOf (stateOf (start c .args .rec .now))) (c .fill-holders .last .1 .0) × AllHolders (rolesOf (stateOf (start c .args .rec .now))) (c .fill-holders .last .1 .0)
+held c =
+    let ready = start c .pre .0 in
+    (c .fill-holders .ensures .1 _ (ready .indexed), all-held _ _ _ ready (c .fill-holders .last .1 .0) _ _ refl (c .before .below .ensures) (c .fill-holders .ensures .0))
+
+abbrev filled : tie.After-strikable-roles → tie.After-fill-holders
+filled c = c .before .before .before .before .before .before
+
+-- the first turn
+abbrev turn : tie.After-strikable-roles → Turn
+turn c =
+    record {
+      progress = record { counts = start (filled c) .args .counts; quality = c .before .before .before .weigh .result; changed = 0; examined = 0 };
+      worklist = c .strikable-roles .result;
+    }
+
+first : (c : tie.After-strikable-roles)
+    → Underway (start (filled c) .args .rec .now) (filled c .fill-holders .last .1 .0) (take downStart (start (filled c) .args .work .now)) (turn c)
+    × (runIn (start (filled c) .args .rec .now) (turn c) ≡ begin (rolesOf (stateOf (start (filled c) .args .rec .now))) (weightsIn (start (filled c) .args .terms .weights)) (strikables (rolesOf (stateOf (start (filled c) .args .rec .now))) (stateOf (start (filled c) .args .rec .now) .standing)) (stateOf (start (filled c) .args .rec .now) .standing))
+first c =
+    let given = start (filled c) .pre in
+    let index = held (filled c) in
+    let weighed = c .before .before .before .weigh .ensures in
+    first-turn _ _ _ (given .0) _ (index .0) (index .1) _ (turn c) (given .1 .1 .0) (weighed .0) (weighed .1) refl refl (c .strikable-roles .ensures)
+
+slice-read-m : tie.Need-slice-read-m
+slice-read-m c = search needs
+
+slice-read-c : tie.Need-slice-read-c
+slice-read-c c = search needs
+
+below-requires : tie.Need-below-requires
+below-requires c κs = search needs
+
+fill-holders-requires : tie.Need-fill-holders-requires
+fill-holders-requires c κs = (search needs, (search needs, ready-few _ _ _ (c .before .before .before .before .before .before .before .before .pre .0)))
+
+weigh-requires : tie.Need-weigh-requires
+weigh-requires c κs = let given = c .before .before .before .before .before .before .before .before .before .before .before .pre in (ready-weighed _ _ _ (given .0) _ (given .1 .1 .0), given .1 .0 .weights)
+
+strikable-roles-requires : tie.Need-strikable-roles-requires
+strikable-roles-requires c κs = search needs
+
+is-empty-requires : tie.Need-is-empty-requires
+is-empty-requires c κs = search needs
+
+same-length : tie.Need-same-length
+same-length c = search needs
+
+same-length-2 : tie.Need-same-length-2
+same-length-2 c = search needs
+
+returns : tie.Need-returns
+returns c =
+    let begins = first (c .before .before) in
+    ended-at-once _ _ _ _ (turn (c .before .before)) (begins .0) (begins .1) (eqb-iff _ _ .0 (sym (c .before .is-empty .ensures) ∙ c .if1 .taken))
+
+fill-order-requires : tie.Need-fill-order-requires
+fill-order-requires c κs =
+    let few = sizes-small _ _ _ (start (c .before .before .before .before .before .before .before .before .before .before) .pre .0) in
+    (search needs, (few .0, (few .1, search needs)))
+
+run-passes-requires : tie.Need-run-passes-requires
+run-passes-requires c κs =
+    let listed = c .before .before .before .before .before .before .before .before .before .before in
+    let given = start (filled listed) .pre in
+    let ordered = c .before .before .before .before .before .fill-order in
+    let index = held (filled listed) in
+    let begins = first listed in
+    (rw (ordered .ensures .0) (begins .0), (given .1 .0, (all-prepared _ _ _ (given .0) _ (index .0) (index .1) _ _ _ refl refl (ordered .ensures .1), (begins .1, (given .1 .1 .1 .0, (search needs, search needs))))))
+
+same-length-3 : tie.Need-same-length-3
+same-length-3 c = search needs
+
+same-length-4 : tie.Need-same-length-4
+same-length-4 c = search needs
+
+same-length-5 : tie.Need-same-length-5
+same-length-5 c = search needs
+
+returns-2 : tie.Need-returns-2
+returns-2 c = search needs
+
+pub eliminate-all-spec : {M : Type 1} → statement M
+eliminate-all-spec =
+    tie.close
+    (tie.spec
+    slice-read-m
+    slice-read-c
+    below-requires
+    fill-holders-requires
+    weigh-requires
+    strikable-roles-requires
+    is-empty-requires
+    same-length
+    same-length-2
+    returns
+    fill-order-requires
+    run-passes-requires
+    same-length-3
+    same-length-4
+    same-length-5
+    returns-2)
