@@ -30,7 +30,7 @@ use Rattle.quality.specs.declared.weights.Weights.{Weights}
 use Rattle.quality.specs.Numbers.{countsIn, weightsIn, toleranceIn, mostQuality}
 use Rattle.edit_trials.specs.Trying.{runAt, Exact, Kin}
 use Rattle.edit_trials.proofs.Runs.{roles-count, ready-few, kin-same, kin-trans, kin-roles}
-use Rattle.edit_order.specs.Work.{downStart, Prepared}
+use Rattle.edit_order.specs.Work.{IndexedFor, downStart, Prepared}
 use Rattle.edit_eliminate.specs.declared.turn.Terms.{Terms}
 use Rattle.edit_eliminate.specs.declared.turn.Turn.{Turn}
 use Rattle.edit_eliminate.specs.Passing.{mostExamined, takeUpBy, runIn, Underway, Reached, Ended}
@@ -145,9 +145,9 @@ module _ (ws index : List ℕ) (terms : Terms) where
 -- ---- the start: a record with its index, in which the code then fills the holders of all permissions
 
 module _ (ws index seniors : List ℕ) (ready : Ready (stateOf ws) ws index seniors) where
-  pub sizes-small : (getD ws 1 0 ≤ 256) × (getD ws 2 0 ≤ 128)
+  pub permissions-few : getD ws 1 0 ≤ 256
   unfolding stateOf
-  sizes-small = (ready .limits .permissions-most, ready-few ws index seniors ready)
+  permissions-few = ready .limits .permissions-most
 
   pub all-held : (index' : List ℕ) (m s : ℕ) → m ≡ getD ws 1 0 → s ≡ collect 256 (λ i. ltb i m) → ((st : State) → Limits st → ws ≡ built st → HoldersFor (rolesOf st) s index')
       → AllHolders (rolesOf (stateOf ws)) index'
@@ -177,6 +177,10 @@ module _ (ws index seniors : List ℕ) (ready : Ready (stateOf ws) ws index seni
         )
 
     -- what the order of each pass is computed from
+    -- the index is that of as many roles as word 2 says
+    pub index-of : IndexedFor (getD ws 2 0) index'
+    index-of = (rolesOf (stateOf ws), roles-count ws index seniors ready, numbered (stateOf ws) (ready .limits), indexed)
+
     pub all-prepared : (work' : List ℕ) (m c : ℕ) → m ≡ getD ws 1 0 → c ≡ getD ws 2 0
         → ((ρ : Roles) → candidateCount ρ ≡ c → ρ .permissions ≡ m → Numbered ρ → Indexed ρ index' → AllHolders ρ index' → Prepared ρ work')
         → Prepared (rolesOf (stateOf ws)) work'

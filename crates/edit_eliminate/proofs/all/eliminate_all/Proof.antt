@@ -14,7 +14,7 @@ use Rattle.edit_trials.proofs.Runs.{ready-few, ready-weighed}
 use Rattle.edit_order.specs.Work.{downStart}
 use Rattle.edit_eliminate.specs.declared.turn.Turn.{Turn}
 use Rattle.edit_eliminate.specs.Passing.{runIn, Underway}
-use Rattle.edit_eliminate.proofs.Running.{ended-at-once, sizes-small, all-held, first-turn, all-prepared}
+use Rattle.edit_eliminate.proofs.Running.{ended-at-once, permissions-few, index-of, all-held, first-turn, all-prepared}
 use Rattle.edit_eliminate.proofs.all.eliminate_all.Statement.{statement}
 use Rattle.edit_eliminate.proofs.all.eliminate_all.Tie as tie
 
@@ -81,8 +81,9 @@ returns c =
 
 fill-order-requires : tie.Need-fill-order-requires
 fill-order-requires c κs =
-    let few = sizes-small _ _ _ (start (c .before .before .before .before .before .before .before .before .before .before) .pre .0) in
-    (search needs, (few .0, (few .1, search needs)))
+    let held-here = held (c .before .before .before .before .before .before .before .before .before .before) in
+    let ready = start (c .before .before .before .before .before .before .before .before .before .before) .pre .0 in
+    (index-of _ _ _ ready _ (held-here .0) (held-here .1), (permissions-few _ _ _ ready, search needs))
 
 run-passes-requires : tie.Need-run-passes-requires
 run-passes-requires c κs =

@@ -69,7 +69,7 @@ loop-again c =
     let front = c .before .before .before .before .before .before .before .before in
     let turn = c .before .before .before .before .before .take-up in
     let inv = front .before .before .before .before .before .loop .inv .1 in
-    (search needs, taking-more _ _ _ _ _ _ _ _ _ inv _ _ (front .foremost .ensures) _ _ _ _ _ (turn .ensures) (part-back _ 0 256 _ (turn .ensures .underway .going .ready .linked .size) (rw (inv .prepared .size) (omega arith))) (c .remove .ensures))
+    (search needs, taking-more _ _ _ _ _ _ _ _ _ inv _ _ (front .foremost .ensures) _ _ _ _ _ (turn .ensures) (part-back _ 0 256 _ (turn .ensures .underway .going .ready .linked .size) (rw (inv .prepared .reach .size) (omega arith))) (c .remove .ensures))
 
 same-length : tie.Need-same-length Inv-loop μ-loop
 same-length c = search needs
