@@ -145,3 +145,11 @@ blank n i =
     let z : ℕ = 0 in
     let e = length-replicate n z in
     either i n (λ l. getD-replicate n i z z l) (λ l. List·getD-eq-default (replicate n z) z (omega arith))
+
+-- and each of its parts
+pub blank-part : (n at m i : ℕ) → _≡_ {A = ℕ} (getD (take m (drop at (replicate n 0))) i 0) 0
+blank-part n at m i =
+    let z : ℕ = 0 in
+    let l = drop at (replicate n z) in
+    let most : length (take m l) ≤ m = rw (length-take m l) (min-le-left m (length l)) in
+    either i m (λ b. getD-take m l i z b ∙ getD-drop at (replicate n z) i z ∙ blank n (at + i)) (λ b. List·getD-eq-default (take m l) z (omega arith))
