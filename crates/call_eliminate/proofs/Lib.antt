@@ -1,1 +1,1 @@
-mod Eliminating
+pub mod Eliminating

@@ -1,16 +1,24 @@
 ghost use mathlib.Core.Path.{_≡_};
 ghost use Rattle.model.specs.Calls.{edit};
-ghost use Rattle.model.specs.Quality.{toleranceAllowed};
+ghost use Rattle.model.specs.Machine.{refusal};
 ghost use Rattle.model.specs.Machine.Call.{eliminate};
-ghost use Rattle.quality.specs.Numbers.{weightsOf, toleranceOf};
-ghost use Rattle.call_eliminate.specs.Answers.{eliminateGiven};
-use edit_eliminate::Tolerance;
+ghost use Rattle.model.specs.Refusals.{toleranceRefusal};
+ghost use Rattle.model.specs.State.{State};
+ghost use Rattle.quality.specs.Numbers.{weightsIn, toleranceIn, weightsOf, toleranceOf};
+ghost use Rattle.call_eliminate.specs.Results.{eliminateResult};
+use calls::enter;
+use calls::weights_refusal;
+use edit_eliminate::Terms;
 use edit_eliminate::eliminate_all;
-use edit_trials::Weights;
+use edit_order::DOWN;
+use edit_order::SENIORS;
+use edit_order::WORK_LENGTH;
+use indexes::INDEX_LENGTH;
+use quality::Tolerance;
+use quality::Weights;
 use quality::count_rows;
-use quality::weights_allowed;
-use records::is_sound;
-use tables::LENGTH;
+use quality::tolerance_allowed;
+use refusals::REFUSED_RANGE;
 
 // The refusal's number, or 0, and beside 0 how many roles were struck, and how many were examined.
 #[repr(C)]
@@ -30,20 +38,25 @@ fn refused(code: u64) -> EliminateAnswer
     }
 }
 
-// Whether a/b lies from 1 to 2, with b from 1 to 1,000. b is judged before 2b is formed.
-fn tolerance_allowed(a: u64, b: u64) -> bool
-    ensures { λ r. ⌜ r ≡ toleranceAllowed (toleranceOf a b) ⌝ }
+// 9, or 0 where the tolerance is in its range.
+fn tolerance_refusal(t: Tolerance) -> u64
+    ensures { λ r. ⌜ r ≡ toleranceRefusal (toleranceIn t) ⌝ }
 {
-    if b < 1 {
-        return false;
+    if !tolerance_allowed(t) {
+        return REFUSED_RANGE;
     }
-    if 1000 < b {
-        return false;
+    0
+}
+
+// 9, or 0 where both are.
+fn terms_refusal(terms: Terms) -> u64
+    ensures { λ r. ⌜ ((st : State) → r ≡ refusal st (eliminate (weightsIn (terms .weights)) (toleranceIn (terms .tolerance)))) ⌝ }
+{
+    let code = weights_refusal(terms.weights);
+    if code != 0 {
+        return code;
     }
-    if a < b {
-        return false;
-    }
-    a <= 2 * b
+    tolerance_refusal(terms.tolerance)
 }
 
 // Strikes strikable roles, in passes, the more redundant first, where the quality then stays below a/b times what it was.
@@ -56,35 +69,32 @@ pub fn panel_eliminate(
     a: u64,
     b: u64,
 ) -> EliminateAnswer
-    ensures { λ r. ⌜ eliminateGiven r (now (rec .exit)) ≡ edit (now (rec .entry)) (eliminate (weightsOf w1 w2 w3 w4) (toleranceOf a b)) ⌝ }
+    ensures { λ r. ⌜ eliminateResult r (now (rec .exit)) ≡ edit (now (rec .entry)) (eliminate (weightsOf w1 w2 w3 w4) (toleranceOf a b)) ⌝ }
 {
-    if rec.len() != LENGTH {
-        return refused(1);
-    }
-    let mut low = [0u64; 256];
-    let mut roles = [0u64; 256];
-    let mut users = [0u64; 256];
-    if !is_sound(rec, &mut low, &mut roles, &mut users) {
-        return refused(5);
-    }
-    if !weights_allowed(w1, w2, w3, w4) {
-        return refused(9);
-    }
-    if !tolerance_allowed(a, b) {
-        return refused(9);
-    }
-    let weights = Weights {
-        role: w1,
-        member: w2,
-        permission: w3,
-        link: w4,
+    let terms = Terms {
+        weights: Weights {
+            role: w1,
+            member: w2,
+            permission: w3,
+            link: w4,
+        },
+        tolerance: Tolerance {
+            numerator: a,
+            denominator: b,
+        },
     };
-    let tolerance = Tolerance {
-        numerator: a,
-        denominator: b,
-    };
+    let mut index = [0u64; INDEX_LENGTH];
+    let mut work = [0u64; WORK_LENGTH];
+    let unfit = enter(rec, &mut index, &mut work[SENIORS..DOWN]);
+    if unfit != 0 {
+        return refused(unfit);
+    }
+    let code = terms_refusal(terms);
+    if code != 0 {
+        return refused(code);
+    }
     let counts = count_rows(rec);
-    let run = eliminate_all(rec, &low, &roles, &users, weights, tolerance, counts);
+    let run = eliminate_all(rec, &mut index, &mut work, terms, counts);
     EliminateAnswer {
         code: 0,
         removed: run.changed,

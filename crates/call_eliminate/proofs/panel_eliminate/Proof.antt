@@ -1,123 +1,136 @@
--- Each refusal by its own test, and then the elimination of a record that is ready for it.
+-- The entrance, the machine's own check, and then the record that the elimination leaves.
 -- Assumes nothing.
 use borrow.Author.Needs.{needs}
-use mathlib.Core.Path.{refl, sym, _∙_}
-use borrow.Author.Tests.{not-true, not-false}
-use Rattle.edit_trials.proofs.Runs.{weights-in}
-use Rattle.calls.proofs.Edits.{roles-few, edit-1, edit-5, sound-ready, sound-exact}
-use Rattle.call_eliminate.proofs.Eliminating.{tolerance-in, eliminate-9-weights, eliminate-9-tolerance, eliminate-0, eliminate-told, eliminate-given}
+use mathlib.Core.Path.{_≡_, refl, sym, _∙_}
+use mathlib.Core.List.{List}
+use Prim.Native.Nat.{ℕ}
+use lib.ListN.{length, replicate, length-replicate}
+use Rattle.model.specs.Machine.{Call, refusal}
+use Rattle.model.specs.Machine.Call.{eliminate}
+use Rattle.model.specs.Record.{stateOf}
+use Rattle.model.specs.Calls.{unfit}
+use Rattle.model.proofs.Refusals.{unfit-iff, eliminate-check}
+use Rattle.model.proofs.Sound.{sound-counts}
+use Rattle.stores.proofs.Stores.{blank}
+use Rattle.rows.specs.Linked.{Ready}
+use Rattle.quality.specs.Numbers.{weightsIn, toleranceIn, weightsOf, toleranceOf}
+use Rattle.calls_edit.proofs.Edits.{edit-unfit, edit-refused, fit-length, fit-few}
+use Rattle.call_eliminate.proofs.Eliminating.{blank-part, entered-size, entered-ready, refused, run-ended}
 use Rattle.call_eliminate.proofs.panel_eliminate.Statement.{statement}
 use Rattle.call_eliminate.proofs.panel_eliminate.Tie as tie
+
+-- the work as it is made
+abbrev blanks : List ℕ
+blanks = replicate 1796 0
+
+blanks-length : length blanks ≡ 1796
+blanks-length = length-replicate {A = ℕ} 1796 0
+
+abbrev start : tie.Else1 → tie.Start
+start c = c .before .before .before .before .before .before .before .before
+
+abbrev call : tie.Start → Call
+call s = eliminate (weightsOf (s .args .w1) (s .args .w2) (s .args .w3) (s .args .w4)) (toleranceOf (s .args .a) (s .args .b))
+
+fit : (c : tie.Else1) → unfit (start c .args .rec .now) ≡ 0
+fit c = sym (c .before .before .before .enter .ensures .number) ∙ c .if1 .left
+
+-- what the entrance filled
+entered : (c : tie.Else1) → Ready (stateOf (start c .args .rec .now)) (start c .args .rec .now) (c .before .before .before .enter .last .1 .0) (c .before .before .before .enter .last .1 .1 .0)
+entered c = c .before .before .before .enter .ensures .ready (c .if1 .left)
+
+passed : (c : tie.Else2) → refusal (stateOf (start (c .before .before) .args .rec .now)) (call (start (c .before .before))) ≡ 0
+unfolding weightsIn weightsOf toleranceIn toleranceOf
+passed c = sym (c .before .terms-refusal .ensures _) ∙ c .if2 .left
+
+slice-aggregate-enter : tie.Need-slice-aggregate-enter
+slice-aggregate-enter c = search needs
+
+sub-enter : tie.Need-sub-enter
+sub-enter c = search needs
+
+part-work-start : tie.Need-part-work-start
+part-work-start c = search needs
+
+part-work-end : tie.Need-part-work-end
+part-work-end c = search needs
+
+enter-requires : tie.Need-enter-requires
+enter-requires c κs = (search needs, (search needs, λ i. blank-part 256 i blanks (blank 1796)))
 
 refused-requires : tie.Need-refused-requires
 refused-requires c κs = search needs
 
+same-length : tie.Need-same-length
+same-length c = search needs
+
 returns : tie.Need-returns
-returns c = eliminate-told _ _ _ _ (c .refused .ensures) (edit-1 _ _ (c .before .if1 .taken))
+returns c = refused _ _ _ _ (c .refused .ensures) (edit-unfit _ _ _ (c .before .if1 .taken) (c .before .before .before .before .enter .ensures .number))
 
-slice-aggregate-is-sound : tie.Need-slice-aggregate-is-sound
-slice-aggregate-is-sound c = search needs
-
-slice-aggregate-is-sound-2 : tie.Need-slice-aggregate-is-sound-2
-slice-aggregate-is-sound-2 c = search needs
-
-slice-aggregate-is-sound-3 : tie.Need-slice-aggregate-is-sound-3
-slice-aggregate-is-sound-3 c = search needs
-
-is-sound-requires : tie.Need-is-sound-requires
-is-sound-requires c κs = search needs
+terms-refusal-requires : tie.Need-terms-refusal-requires
+terms-refusal-requires c κs = search needs
 
 refused-requires-2 : tie.Need-refused-requires-2
 refused-requires-2 c κs = search needs
 
-same-length : tie.Need-same-length
-same-length c = search needs
-
-returns-2 : tie.Need-returns-2
-returns-2 c =
-    eliminate-told _ _ _ _ (c .refused2 .ensures) (edit-5 _ _ (c .before .before .before .before .before .before .before .before .before .before .if1 .left) (sym (c .before .before .before .before .before .is-sound .ensures .0) ∙ not-true _ (c .before .if2 .taken)))
-
-weights-allowed-requires : tie.Need-weights-allowed-requires
-weights-allowed-requires c κs = search needs
-
-refused-requires-3 : tie.Need-refused-requires-3
-refused-requires-3 c κs = search needs
-
 same-length-2 : tie.Need-same-length-2
 same-length-2 c = search needs
 
-returns-3 : tie.Need-returns-3
-returns-3 c =
-    eliminate-told _ _ _ _ (c .refused3 .ensures)
-    (eliminate-9-weights _ _ _ (sym (c .before .before .before .before .before .before .before .is-sound .ensures .0) ∙ not-false _ (c .before .before .before .if2 .left)) (sym (c .before .before .weights-allowed .ensures) ∙ not-true _ (c .before .if3 .taken)))
-
-tolerance-allowed-requires : tie.Need-tolerance-allowed-requires
-tolerance-allowed-requires c κs = search needs
-
-refused-requires-4 : tie.Need-refused-requires-4
-refused-requires-4 c κs = search needs
-
-same-length-3 : tie.Need-same-length-3
-same-length-3 c = search needs
-
-returns-4 : tie.Need-returns-4
-returns-4 c =
-    eliminate-told _ _ _ _ (c .refused4 .ensures)
-    (eliminate-9-tolerance _ _ _ (sym (c .before .before .before .before .before .before .before .before .before .is-sound .ensures .0) ∙ not-false _ (c .before .before .before .before .before .if2 .left)) (sym (c .before .before .tolerance-allowed .ensures) ∙ not-true _ (c .before .if4 .taken)))
+returns-2 : tie.Need-returns-2
+unfolding weightsIn weightsOf toleranceIn toleranceOf
+returns-2 c = refused _ _ _ _ (c .refused2 .ensures) (edit-refused _ _ (fit (c .before .before .before)) _ (c .before .if2 .taken) (c .before .before .terms-refusal .ensures _))
 
 count-rows-requires : tie.Need-count-rows-requires
-count-rows-requires c κs =
-    (c .before .before .before .before .before .before .before .before .before .before .before .before .before .before .if1 .left, roles-few _ (sym (c .before .before .before .before .before .before .before .before .before .is-sound .ensures .0) ∙ not-false _ (c .before .before .before .before .before .if2 .left)))
+count-rows-requires c κs = let z = fit (c .before .before .before) in (fit-length _ z, fit-few _ z)
 
 slice-aggregate-eliminate-all : tie.Need-slice-aggregate-eliminate-all
 slice-aggregate-eliminate-all c = search needs
 
 slice-aggregate-eliminate-all-2 : tie.Need-slice-aggregate-eliminate-all-2
-slice-aggregate-eliminate-all-2 c = search needs
-
-slice-aggregate-eliminate-all-3 : tie.Need-slice-aggregate-eliminate-all-3
-slice-aggregate-eliminate-all-3 c = search needs
+slice-aggregate-eliminate-all-2 c = sym (entered-size _ _ _ blanks (entered (c .before .before .before .before .before .before .before)) blanks-length)
 
 eliminate-all-requires : tie.Need-eliminate-all-requires
+unfolding weightsIn weightsOf toleranceIn toleranceOf
 eliminate-all-requires c κs =
-    let h = sym (c .before .before .before .before .before .before .before .before .before .before .before .before .before .before .is-sound .ensures .0) ∙ not-false _ (c .before .before .before .before .before .before .before .before .before .before .if2 .left) in
-    let ix = c .before .before .before .before .before .before .before .before .before .before .before .before .before .before .is-sound .ensures .1 h in
-    (c .before .before .before .before .before .before .before .before .before .before .before .before .before .before .before .before .before .before .before .if1 .left, search needs, search needs, search needs, sound-ready _ _ _ _ h ix, ix .user-roles, sound-exact _ _ h (c .before .before .before .before .count-rows .ensures .0), rw (weights-in _) (sym (c .before .before .before .before .before .before .before .before .before .weights-allowed .ensures) ∙ not-false _ (c .before .before .before .before .before .before .before .before .if3 .left)), rw (tolerance-in _) (sym (c .before .before .before .before .before .before .before .tolerance-allowed .ensures) ∙ not-false _ (c .before .before .before .before .before .before .if4 .left)))
+    let let-in = c .before .before .before .before .before .before .before in
+    let z = fit let-in in
+    let ready = entered let-in in
+    let allowed = eliminate-check _ _ _ .passed (passed (c .before .before .before .before .before)) in (
+      entered-ready _ _ _ blanks ready blanks-length,
+      (
+        record { weights = allowed .0; tolerance = allowed .1 },
+        (c .before .before .before .count-rows .ensures .0 ∙ sound-counts _ (unfit-iff _ .0 z), (fit-length _ z, (search needs, entered-size _ _ _ blanks ready blanks-length))),
+      ),
+    )
 
-same-length-4 : tie.Need-same-length-4
-same-length-4 c = search needs
+same-length-3 : tie.Need-same-length-3
+same-length-3 c = search needs
 
-returns-5 : tie.Need-returns-5
-returns-5 c =
-    let h = sym (c .before .before .before .before .before .before .before .before .before .before .before .before .before .before .before .before .before .is-sound .ensures .0) ∙ not-false _ (c .before .before .before .before .before .before .before .before .before .before .before .before .before .if2 .left) in
-    eliminate-given _ _ (c .before .before .eliminate-all .result) _ (refl, refl, refl)
-    (eliminate-0 _ _ _ _ _ _ _ h (sym (c .before .before .before .before .before .before .before .before .before .before .before .before .weights-allowed .ensures) ∙ not-false _ (c .before .before .before .before .before .before .before .before .before .before .before .if3 .left)) (sym (c .before .before .before .before .before .before .before .before .before .before .tolerance-allowed .ensures) ∙ not-false _ (c .before .before .before .before .before .before .before .before .before .if4 .left)) (rw (weights-in _, tolerance-in _) at (c .before .before .eliminate-all .ensures)))
+returns-3 : tie.Need-returns-3
+unfolding weightsIn weightsOf toleranceIn toleranceOf
+returns-3 c =
+    let accepted = c .before .before .before .before .before .before .before .before .before .before in
+    run-ended _ _ _ _ _ _ _ _ (fit (accepted .before .before)) (passed accepted) refl refl refl (c .before .before .before .before .eliminate-all .ensures)
 
 pub panel-eliminate-spec : {M : Type 1} → statement M
 panel-eliminate-spec =
     tie.close
     (tie.spec
+    slice-aggregate-enter
+    sub-enter
+    part-work-start
+    part-work-end
+    enter-requires
     refused-requires
-    returns
-    slice-aggregate-is-sound
-    slice-aggregate-is-sound-2
-    slice-aggregate-is-sound-3
-    is-sound-requires
-    refused-requires-2
     same-length
-    returns-2
-    weights-allowed-requires
-    refused-requires-3
+    returns
+    terms-refusal-requires
+    refused-requires-2
     same-length-2
-    returns-3
-    tolerance-allowed-requires
-    refused-requires-4
-    same-length-3
-    returns-4
+    returns-2
     count-rows-requires
     slice-aggregate-eliminate-all
     slice-aggregate-eliminate-all-2
-    slice-aggregate-eliminate-all-3
     eliminate-all-requires
-    same-length-4
-    returns-5)
+    same-length-3
+    returns-3)
