@@ -1,40 +1,63 @@
--- An elimination that is refused, and one that is accepted.
+-- What a refused elimination answers, and what an accepted one leaves.
 -- Assumes nothing.
-use mathlib.Core.Path.{_≡_, refl, sym, _∙_}
-use mathlib.Core.List.{List}
-use Prim.Native.Nat.{ℕ}
-use Rattle.model.specs.Quality.{Weights, Tolerance}
-use Rattle.model.specs.Machine.{refusal, accepted, eliminated, reply}
+use mathlib.Core.Path.{_≡_, sym, _∙_, ap}
+use mathlib.Core.List.{List, _++_}
+use Prim.Native.Nat.{ℕ, _+_, _≤_}
+use native.Mathlib.Nat.{le-trans, min-le-left}
+use native.Mathlib.Omega.{arith}
+use lib.ListN.{length, getD, take, drop, length-take, List·getD-eq-default}
+use lib.Seq.{getD-take}
+use Rattle.sets.proofs.Truth.{either}
+use Rattle.model.specs.Machine.{Call, refusal, accepted, eliminated, reply}
 use Rattle.model.specs.Machine.Call.{eliminate}
-use Rattle.model.specs.State.{State, rolesOf}
-use Rattle.model.specs.Record.{stateOf}
-use Rattle.model.specs.Refusals.{_orElse_, weightsRefusal, toleranceRefusal}
+use Rattle.model.specs.Quality.{Weights, Tolerance}
+use Rattle.model.specs.State.{rolesOf}
+use Rattle.model.specs.Record.{built, stateOf}
 use Rattle.model.specs.Calls.{unfit, edit}
+use Rattle.stores.specs.Stores.{putAt}
+use Rattle.stores.proofs.Stores.{length-putAt, part-back, part-stored}
+use Rattle.rows.specs.Linked.{Ready}
+use Rattle.edit_order.specs.Work.{workLength, downStart}
 use Rattle.edit_trials.specs.declared.progress.Progress.{Progress}
 use Rattle.edit_trials.specs.Trying.{runAt}
-use Rattle.edit_trials.proofs.Runs.{kin-built}
 use Rattle.edit_eliminate.specs.Passing.{Ended}
 use Rattle.calls_edit.proofs.Edits.{repliedWith, edit-accepted}
 use Rattle.call_eliminate.specs.declared.EliminateAnswer.{EliminateAnswer}
 use Rattle.call_eliminate.specs.Results.{eliminateResult}
 
--- the weights and the tolerance are its only checks
-pub by-terms : (st : State) (w : Weights) (t : Tolerance) → (weightsRefusal w orElse toleranceRefusal t) ≡ refusal st (eliminate w t)
-unfolding refusal
-by-terms st w t = refl
+-- ---- the first region of the work holds the immediate seniors
+
+-- lent as zeros
+pub blank-part : (n i : ℕ) (l : List ℕ) → ((j : ℕ) → getD l j 0 ≡ 0) → getD (take n l) i 0 ≡ 0
+blank-part n i l zero =
+    let most : length (take n l) ≤ n = rw (length-take n l) (min-le-left n (length l)) in
+    either i n (λ h. getD-take n l i 0 h ∙ zero i) (λ h. List·getD-eq-default (take n l) 0 (le-trans most h))
+
+-- and back as the entrance filled it
+module _ (ws index seniors work : List ℕ) (ready : Ready (stateOf ws) ws index seniors) (size : length work ≡ workLength) where
+  filled : take 0 work ++ (seniors ++ drop downStart (drop 0 work)) ≡ putAt work 0 seniors
+  filled = part-back work 0 downStart seniors (ready .linked .size) (omega arith)
+
+  pub entered-size : length (take 0 work ++ (seniors ++ drop downStart (drop 0 work))) ≡ workLength
+  entered-size = ap length filled ∙ length-putAt work 0 seniors ∙ size
+
+  pub entered-ready : Ready (stateOf ws) ws index (take downStart (take 0 work ++ (seniors ++ drop downStart (drop 0 work))))
+  entered-ready = rw (ap (take downStart) filled ∙ part-stored work 0 seniors downStart (ready .linked .size) (omega arith)) ready
+
+-- ---- the answers
 
 -- the record as it was
-pub refused : (ws : List ℕ) (w : Weights) (t : Tolerance) (code : ℕ) (r : EliminateAnswer) → (r .code ≡ code) × (r .removed ≡ 0) × (r .examined ≡ 0)
-    → repliedWith code ws ≡ edit ws (eliminate w t) → eliminateResult r ws ≡ edit ws (eliminate w t)
+pub refused : (ws : List ℕ) (call : Call) (code : ℕ) (r : EliminateAnswer) → (r .code ≡ code) × (r .removed ≡ 0) × (r .examined ≡ 0)
+    → repliedWith code ws ≡ edit ws call → eliminateResult r ws ≡ edit ws call
 unfolding eliminateResult
-refused ws w t code r e f = (λ i. record { replied = reply (e .0 i) (e .1 i) (e .2 i); words = ws }) ∙ f
+refused ws call code r e told = (λ i. record { replied = reply (e .0 i) (e .1 i) (e .2 i); words = ws }) ∙ told
 
--- the record that the passes leave
-pub given : (ws after index seniors : List ℕ) (w : Weights) (t : Tolerance) (g : Progress) (r : EliminateAnswer) → unfit ws ≡ 0 → refusal (stateOf ws) (eliminate w t) ≡ 0
-    → Ended (stateOf ws) after index seniors g (eliminated (rolesOf (stateOf ws)) w t (stateOf ws .standing))
-    → (r .code ≡ 0) × (r .removed ≡ g .changed) × (r .examined ≡ g .examined) → eliminateResult r after ≡ edit ws (eliminate w t)
+-- and the one that the run leaves
+pub run-ended : (ws after index seniors : List ℕ) (w : Weights) (t : Tolerance) (g : Progress) (r : EliminateAnswer) → unfit ws ≡ 0 → refusal (stateOf ws) (eliminate w t) ≡ 0
+    → r .code ≡ 0 → r .removed ≡ g .changed → r .examined ≡ g .examined → Ended (stateOf ws) after index seniors g (eliminated (rolesOf (stateOf ws)) w t (stateOf ws .standing))
+    → eliminateResult r after ≡ edit ws (eliminate w t)
 unfolding eliminateResult accepted runAt
-given ws after index seniors w t g r z e done er =
-    let worklist = eliminated (rolesOf (stateOf ws)) w t (stateOf ws .standing) .worklist in
-    (λ i. record { replied = reply (er .0 i) (er .1 i) (er .2 i); words = after })
-    ∙ edit-accepted ws (eliminate w t) z e (runAt after g worklist) after (sym (done .run)) (kin-built (stateOf ws) after index seniors (done .going .ready) (done .kin))
+run-ended ws after index seniors w t g r z e ec er ee done =
+    (λ i. record { replied = reply (ec i) (er i) (ee i); words = after })
+    ∙ edit-accepted ws (eliminate w t) z e (runAt after g (eliminated (rolesOf (stateOf ws)) w t (stateOf ws .standing) .worklist)) after (sym (done .run))
+    (done .going .ready .afresh ∙ ap built (done .kin))

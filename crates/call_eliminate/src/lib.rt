@@ -1,7 +1,9 @@
 ghost use mathlib.Core.Path.{_≡_};
 ghost use Rattle.model.specs.Calls.{edit};
+ghost use Rattle.model.specs.Machine.{refusal};
 ghost use Rattle.model.specs.Machine.Call.{eliminate};
-ghost use Rattle.model.specs.Refusals.{_orElse_, weightsRefusal, toleranceRefusal};
+ghost use Rattle.model.specs.Refusals.{toleranceRefusal};
+ghost use Rattle.model.specs.State.{State};
 ghost use Rattle.quality.specs.Numbers.{weightsIn, toleranceIn, weightsOf, toleranceOf};
 ghost use Rattle.call_eliminate.specs.Results.{eliminateResult};
 use calls::enter;
@@ -36,18 +38,25 @@ fn refused(code: u64) -> EliminateAnswer
     }
 }
 
-// 9, or 0 where the weights and then the tolerance are in their ranges.
+// 9, or 0 where the tolerance is in its range.
+fn tolerance_refusal(t: Tolerance) -> u64
+    ensures { λ r. ⌜ r ≡ toleranceRefusal (toleranceIn t) ⌝ }
+{
+    if !tolerance_allowed(t) {
+        return REFUSED_RANGE;
+    }
+    0
+}
+
+// 9, or 0 where both are.
 fn terms_refusal(terms: Terms) -> u64
-    ensures { λ r. ⌜ r ≡ weightsRefusal (weightsIn (terms .weights)) orElse toleranceRefusal (toleranceIn (terms .tolerance)) ⌝ }
+    ensures { λ r. ⌜ ((st : State) → r ≡ refusal st (eliminate (weightsIn (terms .weights)) (toleranceIn (terms .tolerance)))) ⌝ }
 {
     let code = weights_refusal(terms.weights);
     if code != 0 {
         return code;
     }
-    if !tolerance_allowed(terms.tolerance) {
-        return REFUSED_RANGE;
-    }
-    0
+    tolerance_refusal(terms.tolerance)
 }
 
 // Strikes strikable roles, in passes, the more redundant first, where the quality then stays below a/b times what it was.
@@ -62,17 +71,18 @@ pub fn panel_eliminate(
 ) -> EliminateAnswer
     ensures { λ r. ⌜ eliminateResult r (now (rec .exit)) ≡ edit (now (rec .entry)) (eliminate (weightsOf w1 w2 w3 w4) (toleranceOf a b)) ⌝ }
 {
-    let weights = Weights {
-        role: w1,
-        member: w2,
-        permission: w3,
-        link: w4,
+    let terms = Terms {
+        weights: Weights {
+            role: w1,
+            member: w2,
+            permission: w3,
+            link: w4,
+        },
+        tolerance: Tolerance {
+            numerator: a,
+            denominator: b,
+        },
     };
-    let tolerance = Tolerance {
-        numerator: a,
-        denominator: b,
-    };
-    let terms = Terms { weights, tolerance };
     let mut index = [0u64; INDEX_LENGTH];
     let mut work = [0u64; WORK_LENGTH];
     let unfit = enter(rec, &mut index, &mut work[SENIORS..DOWN]);

@@ -109,8 +109,8 @@ module _ (ws index seniors : List ℕ) (terms : Terms) (turn : Turn) (k : ℕ) (
   next = takeUpBy (rolesOf (stateOf ws)) terms k (runIn ws turn)
 
   reached : (after seniors' : List ℕ) (r : Turn) → Going after index seniors' (r .progress) → Kin (stateOf ws) after → r .progress .quality ≤ mostQuality
-      → runIn after r ≡ takeUpBy (rolesOf (stateOf ws)) terms k (runIn ws turn)
-      → Reached (stateOf ws) after index seniors' r (takeUpBy (rolesOf (stateOf ws)) terms k (runIn ws turn))
+      → runIn after r ≡ next
+      → Reached (stateOf ws) after index seniors' r next
   unfolding runIn runAt
   reached after seniors' r going kin small run =
       let changed : r .progress .changed ≤ suc (turn .progress .changed) = rw (ap (λ (x : Run). x .changed) run) (up-changed ρ terms k (runIn ws turn)) in
@@ -129,8 +129,8 @@ module _ (ws index seniors : List ℕ) (terms : Terms) (turn : Turn) (k : ℕ) (
       }
 
   -- as the record was
-  stayed : (r : Turn) → r .progress ≡ unstruck (turn .progress) → runIn ws r ≡ takeUpBy (rolesOf (stateOf ws)) terms k (runIn ws turn)
-      → Reached (stateOf ws) ws index seniors r (takeUpBy (rolesOf (stateOf ws)) terms k (runIn ws turn))
+  stayed : (r : Turn) → r .progress ≡ unstruck (turn .progress) → runIn ws r ≡ next
+      → Reached (stateOf ws) ws index seniors r next
   stayed r e run =
       reached ws seniors r (record { ready = u .going .ready; exact = rw e (u .going .exact) }) (kin-same ws) (rw e (u .quality-small)) run
 
@@ -146,12 +146,12 @@ module _ (ws index seniors : List ℕ) (terms : Terms) (turn : Turn) (k : ℕ) (
 
     -- the role is not strikable
     pub turn-dropped : t ≡ false → (r : Turn) → r .progress ≡ unstruck (turn .progress) → set128 (r .worklist) ≡ set128 (turn .worklist) ∖ single k
-        → Reached (stateOf ws) ws index seniors r (takeUpBy (rolesOf (stateOf ws)) terms k (runIn ws turn))
+        → Reached (stateOf ws) ws index seniors r next
     unfolding runIn runAt takeUpBy takeUp afterDrop
     turn-dropped f r e el =
         let examined : r .progress .examined ≡ suc (turn .progress .examined) = ap (λ (x : Progress). x .examined) e ∙ add-one (turn .progress .examined) in
         stayed r e
-        (held ws r refl el (ap (λ (x : Progress). x .quality) e) (ap (λ (x : Progress). x .changed) e) examined
+        (held ws r refl el (λ i. e i .quality) (λ i. e i .changed) examined
         ∙ sym (if-true (isnt (strikable ρ R k)) _ _ (isnt-iff (strikable ρ R k) .1 (So-not (sym asked ∙ f)))))
 
     -- its strike is weighed: q is the quality, and `less` says whether that is within the tolerance
@@ -162,23 +162,23 @@ module _ (ws index seniors : List ℕ) (terms : Terms) (turn : Turn) (k : ℕ) (
       unfolding model.quality
       quality-then = eq ∙ ap (model.weigh (weightsIn (terms .weights))) (weighed .counts)
 
-      decided : takeUpBy (rolesOf (stateOf ws)) terms k (runIn ws turn) ≡ (if less then afterStrike k q (runIn ws turn) else afterStay (runIn ws turn))
+      decided : next ≡ (if less then afterStrike k q (runIn ws turn) else afterStay (runIn ws turn))
       unfolding runIn runAt takeUpBy takeUp toleranceIn
       decided =
           if-false (isnt (strikable ρ R k)) _ _ (not-So (isnt (strikable ρ R k)) (λ h. isnt-iff (strikable ρ R k) .0 h (sym asked ∙ able)))
           ∙ rw (el, sym quality-then) refl
 
       pub turn-stayed : less ≡ false → (r : Turn) → r .progress ≡ unstruck (turn .progress) → set128 (r .worklist) ≡ set128 (turn .worklist)
-          → Reached (stateOf ws) ws index seniors r (takeUpBy (rolesOf (stateOf ws)) terms k (runIn ws turn))
+          → Reached (stateOf ws) ws index seniors r next
       unfolding runIn runAt afterStay
       turn-stayed f r e ew =
           let examined : r .progress .examined ≡ suc (turn .progress .examined) = ap (λ (x : Progress). x .examined) e ∙ add-one (turn .progress .examined) in
           stayed r e
-          (held ws r refl ew (ap (λ (x : Progress). x .quality) e) (ap (λ (x : Progress). x .changed) e) examined ∙ sym (decided ∙ if-false less _ _ f))
+          (held ws r refl ew (λ i. e i .quality) (λ i. e i .changed) examined ∙ sym (decided ∙ if-false less _ _ f))
 
       pub turn-struck : So less → q ≤ mostQuality → (after seniors' : List ℕ) → Ready (standingNow (stateOf ws) (stateOf ws .standing ∖ single k)) after index seniors' → (r : Turn)
           → r .progress ≡ struck (turn .progress) (trial .counts) q → set128 (r .worklist) ≡ set128 (turn .worklist) ∖ single k
-          → Reached (stateOf ws) after index seniors' r (takeUpBy (rolesOf (stateOf ws)) terms k (runIn ws turn))
+          → Reached (stateOf ws) after index seniors' r next
       unfolding runIn runAt afterStrike
       turn-struck within small after seniors' made r e ew =
           let ready = u .going .ready in
@@ -187,7 +187,7 @@ module _ (ws index seniors : List ℕ) (terms : Terms) (turn : Turn) (k : ℕ) (
           let changed : r .progress .changed ≡ suc (turn .progress .changed) = ap (λ (x : Progress). x .changed) e ∙ add-one (turn .progress .changed) in
           let examined : r .progress .examined ≡ suc (turn .progress .examined) = ap (λ (x : Progress). x .examined) e ∙ add-one (turn .progress .examined) in
           reached after seniors' r
-          (trial-going ws index seniors ready S (strike-below ws index seniors ready k) (trial .counts) (weighed .counts) after seniors' made (r .progress) (ap (λ (x : Progress). x .counts) e))
+          (trial-going ws index seniors ready S (strike-below ws index seniors ready k) (trial .counts) (weighed .counts) after seniors' made (r .progress) (λ i. e i .counts))
           (kin-now ws after S now-state) (rw e small)
-          (held after r (ap (λ (st : State). st .standing) now-state ∙ standing-now (stateOf ws) S) ew (ap (λ (x : Progress). x .quality) e) changed examined
+          (held after r (ap (λ (st : State). st .standing) now-state ∙ standing-now (stateOf ws) S) ew (λ i. e i .quality) changed examined
           ∙ sym (decided ∙ if-true less _ _ within))
