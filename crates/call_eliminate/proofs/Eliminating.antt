@@ -2,12 +2,9 @@
 -- Assumes nothing.
 use mathlib.Core.Path.{_≡_, sym, _∙_, ap}
 use mathlib.Core.List.{List, _++_}
-use Prim.Native.Nat.{ℕ, _+_, _≤_}
-use native.Mathlib.Nat.{le-trans, min-le-left}
+use Prim.Native.Nat.{ℕ, _+_}
 use native.Mathlib.Omega.{arith}
-use lib.ListN.{length, getD, take, drop, length-take, List·getD-eq-default}
-use lib.Seq.{getD-take}
-use Rattle.sets.proofs.Truth.{either}
+use lib.ListN.{length, take, drop}
 use Rattle.model.specs.Machine.{Call, refusal, accepted, eliminated, reply}
 use Rattle.model.specs.Machine.Call.{eliminate}
 use Rattle.model.specs.Quality.{Weights, Tolerance}
@@ -26,12 +23,6 @@ use Rattle.call_eliminate.specs.declared.EliminateAnswer.{EliminateAnswe
 use Rattle.call_eliminate.specs.Results.{eliminateResult}
 
 -- ---- the first region of the work holds the immediate seniors
-
--- lent as zeros
-pub blank-part : (n i : ℕ) (l : List ℕ) → ((j : ℕ) → getD l j 0 ≡ 0) → getD (take n l) i 0 ≡ 0
-blank-part n i l zero =
-    let most : length (take n l) ≤ n = rw (length-take n l) (min-le-left n (length l)) in
-    either i n (λ h. getD-take n l i 0 h ∙ zero i) (λ h. List·getD-eq-default (take n l) 0 (le-trans most h))
 
 -- and back as the entrance filled it
 module _ (ws index seniors work : List ℕ) (ready : Ready (stateOf ws) ws index seniors) (size : length work ≡ workLength) where

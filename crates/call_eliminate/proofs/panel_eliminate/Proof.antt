@@ -11,20 +11,13 @@ use Rattle.model.specs.Record.{stateOf}
 use Rattle.model.specs.Calls.{unfit}
 use Rattle.model.proofs.Refusals.{unfit-iff, eliminate-check}
 use Rattle.model.proofs.Sound.{sound-counts}
-use Rattle.stores.proofs.Stores.{blank}
+use Rattle.stores.proofs.Stores.{blank-part}
 use Rattle.rows.specs.Linked.{Ready}
 use Rattle.quality.specs.Numbers.{weightsIn, toleranceIn, weightsOf, toleranceOf}
 use Rattle.calls_edit.proofs.Edits.{edit-unfit, edit-refused, fit-length, fit-few}
-use Rattle.call_eliminate.proofs.Eliminating.{blank-part, entered-size, entered-ready, refused, run-ended}
+use Rattle.call_eliminate.proofs.Eliminating.{entered-size, entered-ready, refused, run-ended}
 use Rattle.call_eliminate.proofs.panel_eliminate.Statement.{statement}
 use Rattle.call_eliminate.proofs.panel_eliminate.Tie as tie
-use Rattle.call_eliminate.proofs.panel_eliminate.Reads as reads
-use Rattle.call_eliminate.proofs.panel_eliminate.Lts as lts
-use Rattle.call_eliminate.proofs.refused.Reads as refused-reads
-use Rattle.call_eliminate.proofs.terms_refusal.Reads as terms-refusal-reads
-use Rattle.calls.proofs.enter.Reads as enter-reads
-use Rattle.edit_eliminate.proofs.eliminate_all.Reads as eliminate-all-reads
-use Rattle.quality.proofs.count_rows.Reads as count-rows-reads
 
 -- the work as it is made
 abbrev blanks : List ℕ
@@ -63,7 +56,7 @@ part-work-end : tie.Need-part-work-end
 part-work-end c = search needs
 
 enter-requires : tie.Need-enter-requires
-enter-requires c κs = (search needs, (search needs, λ i. blank-part 256 i blanks (blank 1796)))
+enter-requires c κs = (search needs, (search needs, blank-part 1796 0 256))
 
 refused-requires : tie.Need-refused-requires
 refused-requires c κs = search needs
@@ -87,19 +80,15 @@ returns-2 : tie.Need-returns-2
 unfolding weightsIn weightsOf toleranceIn toleranceOf
 returns-2 c = refused _ _ _ _ (c .refused2 .ensures) (edit-refused _ _ (fit (c .before .before .before)) _ (c .before .if2 .taken) (c .before .before .terms-refusal .ensures _))
 
--- src/lib.rt:86:9
 count-rows-requires : tie.Need-count-rows-requires
 count-rows-requires c κs = let z = fit (c .before .before .before) in (fit-length _ z, fit-few _ z)
 
--- src/lib.rt:87:34
 slice-aggregate-eliminate-all : tie.Need-slice-aggregate-eliminate-all
 slice-aggregate-eliminate-all c = search needs
 
--- src/lib.rt:87:46
 slice-aggregate-eliminate-all-2 : tie.Need-slice-aggregate-eliminate-all-2
 slice-aggregate-eliminate-all-2 c = sym (entered-size _ _ _ blanks (entered (c .before .before .before .before .before .before .before)) blanks-length)
 
--- src/lib.rt:87:9
 eliminate-all-requires : tie.Need-eliminate-all-requires
 unfolding weightsIn weightsOf toleranceIn toleranceOf
 eliminate-all-requires c κs =
