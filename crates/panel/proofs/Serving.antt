@@ -1,29 +1,25 @@
 -- A list of calls, served one by one; and condition 3 of what that leaves.
 -- Assumes nothing.
-use mathlib.Core.Path.{_≡_, refl, sym, _∙_, ap, subst}
-use mathlib.Core.Bool.{Bool, true, false, So}
+use mathlib.Core.Path.{_≡_, refl, sym, _∙_, ap}
+use mathlib.Core.Bool.{true, false, So}
 use mathlib.Core.Logic.{_↔_, _≢_}
 use mathlib.Core.List.{List, [], _∷_, _++_}
 use Prim.Native.Nat.{ℕ, suc, _+_, _-_, _*_, _/_, _≤_, _<_}
 use native.Mathlib.Omega.{arith}
-use lib.Dec.{eqb, leb, ltb}
+use lib.Dec.{eqb, ltb}
 use lib.ListN.{length, getD, set, take, length-set}
 use lib.Seq.{take-all, take-suc-set}
-use Rattle.sets.specs.Truth.{_and_, isnt, if_then_else_, all}
-use Rattle.sets.specs.Sets.{has, single}
-use Rattle.sets.proofs.Truth.{by-test, So-not, not-So, and-iff, isnt-iff, all-iff, eqb-iff, leb-iff, ltb-iff, all-more, if-true, if-false, if-cases}
+use Rattle.sets.specs.Truth.{_and_, all}
+use Rattle.sets.proofs.Truth.{So-not, not-So, and-iff, all-iff, eqb-iff, ltb-iff, all-more, if-true, if-false}
 use Rattle.model.specs.Lists.{rowsAt}
 use Rattle.model.specs.Candidates.{candidates}
-use Rattle.model.specs.Chains.{link, Chain, Authorised, linksBut}
-use Rattle.model.specs.State.{State, rolesOf, fresh, withinLimits, rowsWithin}
-use Rattle.model.specs.Record.{recordLength, built, stateOf, roleRowsOf}
-use Rattle.model.specs.Altered.{Altered}
-use Rattle.model.specs.Machine.{Call, step, stateAfter, Reply, reply, repliesTo}
+use Rattle.model.specs.State.{fresh}
+use Rattle.model.specs.Record.{built}
+use Rattle.model.specs.Machine.{Call, reply}
 use Rattle.model.specs.Machine.Call.{strike, restore, eliminate, review}
 use Rattle.model.specs.Calls as calls
 use Rattle.model.specs.Calls.{Edited, edit, mine, miningRefusal}
 use Rattle.model.specs.Claim.{wordsAfter, repliesGiven}
-use Rattle.model.proofs.Lists.{length-rowsAt}
 use Rattle.model.proofs.Steps.{mining-fit}
 use Rattle.model.proofs.Calls.{mine-code, mine-accepted, mine-refused}
 use Rattle.model.proofs.Claim.{built-claim}
