@@ -4,19 +4,19 @@ use mathlib.Core.Path.{_≡_, refl, sym, _∙_, ap}
 use mathlib.Core.Bool.{false, So}
 use mathlib.Core.Logic.{_≢_, _⊎_, ⊎-elim}
 use mathlib.Core.List.{List}
-use Prim.Native.Nat.{ℕ, _+_, _*_, _≤_}
+use Prim.Native.Nat.{ℕ, _+_, _*_, _≤_, _<_}
 use native.Mathlib.Omega.{arith}
 use lib.Dec.{eqb, leb}
 use lib.ListN.{length, take, replicate}
 use lib.Seq.{length-take-le, getD-take}
 use Rattle.sets.specs.Truth.{_and_, isnt, if_then_else_}
-use Rattle.sets.proofs.Truth.{by-test, not-So, So-not, and-iff, eqb-iff, leb-iff, if-true, if-false, if-passes, if-stops}
+use Rattle.sets.proofs.Truth.{either, by-test, not-So, So-not, eqb-iff, leb-iff, if-true, if-false}
 use Rattle.model.specs.Lists.{rowsAt, setAt}
 use Rattle.model.specs.Candidates.{candidates}
 use Rattle.model.specs.State.{State, fresh, withinLimits, rowsWithin}
 use Rattle.model.specs.Record.{recordLength, built, stateOf, sound}
 use Rattle.model.specs.Calls.{Mined, miningRefusal, mine}
-use Rattle.model.proofs.Lists.{length-rowsAt, tabulate-same, setAt-same}
+use Rattle.model.proofs.Lists.{tabulate-same, setAt-same}
 use Rattle.model.proofs.Record.{withinLimits-iff, state-back}
 use Rattle.model.proofs.Refusals.{mining-iff, mining-is-4}
 use Rattle.model.proofs.Steps.{Fit, after-fit, mining-fit}
@@ -45,7 +45,7 @@ module _ (n m : ℕ) (crew ws : List ℕ) (full : length ws ≡ recordLength) (o
   few-code t = mining-iff n m crew ws .1 (full, ok, (size, inside), leb-iff (length (candidates rows)) 128 .0 t)
 
   more-than : leb (length (candidates rows)) 128 ≡ false → 128 < length (candidates rows)
-  more-than t = not-le-lt (λ l. So-not t (leb-iff (length (candidates rows)) 128 .1 l))
+  more-than t = either 128 (length (candidates rows)) (λ l. l) (λ l. absurd (So-not t (leb-iff (length (candidates rows)) 128 .1 l)))
 
   many-code : leb (length (candidates rows)) 128 ≡ false → miningRefusal n m crew ws ≡ 4
   many-code t = mining-is-4 n m crew ws full ok (size, inside) (more-than t)

@@ -9,18 +9,18 @@ use native.Mathlib.Omega.{arith}
 use lib.Count.{ones}
 use lib.ListN.{length, getD}
 use lib.Pow.{pow-mono}
-use lib.Dec.{eqb, ltb}
+use lib.Dec.{ltb}
 use Rattle.sets.specs.Truth.{if_then_else_}
 use Rattle.sets.specs.Sets.{has}
-use Rattle.sets.proofs.Truth.{if-true, if-passes, eqb-iff, ltb-iff}
+use Rattle.sets.proofs.Truth.{if-true, ltb-iff}
 use Rattle.model.specs.Lists.{setAt}
 use Rattle.model.specs.Hierarchy.{candidateCount, permissionSet, directPermissions, directMembers, immediateJuniors, building, RoleRows}
-use Rattle.model.specs.Quality.{Weights, weightsAllowed, counted, counts, weigh, quality}
+use Rattle.model.specs.Quality.{weightsAllowed, quality}
 use Rattle.model.specs.State.{State, rolesOf}
 use Rattle.model.specs.Record.{built, stateOf, sound, juniorsStart, membersStart, permissionsStart, setsStart, Limits, roleRowsOf}
 use Rattle.model.specs.Machine.Call.{eliminate, review}
 use Rattle.model.specs.Claim.{wordsAfter}
-use Rattle.model.specs.Calls.{Edited, Told, edit, unfit, told, qualityOf}
+use Rattle.model.specs.Calls.{Edited, Told, edit, qualityOf}
 use Rattle.model.proofs.Record.{sound-iff, read-users, read-permissions, read-count, read-set, rows-back}
 use Rattle.model.proofs.Bounds.{weightsAllowed-iff}
 use Rattle.model.specs.Conditions.{QualityConditions}
