@@ -1,25 +1,18 @@
 -- A review that is refused, and one that is accepted.
 -- Assumes nothing.
 use mathlib.Core.Path.{_≡_, refl, sym, _∙_}
-use mathlib.Core.Bool.{So}
 use mathlib.Core.List.{List}
 use Prim.Native.Nat.{ℕ}
-use lib.ListN.{getD}
-use Rattle.model.specs.Lists.{setAt}
-use Rattle.model.specs.Quality.{Weights, counted, weightsAllowed}
+use Rattle.model.specs.Quality.{Weights}
 use Rattle.model.specs.Machine.{refusal, accepted, reviewed, reply}
 use Rattle.model.specs.Machine.Call.{review}
 use Rattle.model.specs.State.{State, rolesOf}
-use Rattle.model.specs.Record.{roleRowsOf, stateOf}
+use Rattle.model.specs.Record.{stateOf}
 use Rattle.model.specs.Refusals.{weightsRefusal}
 use Rattle.model.specs.Calls.{unfit, edit}
-use Rattle.model.proofs.Refusals.{unfit-iff, review-check}
-use Rattle.model.proofs.Sound.{counts-read}
-use Rattle.quality.specs.Numbers.{countsIn}
-use Rattle.quality.specs.declared.counts.Counts.{Counts}
 use Rattle.rows.specs.Linked.{Ready}
 use Rattle.edit_trials.specs.declared.progress.Progress.{Progress}
-use Rattle.edit_trials.specs.Trying.{Exact, Kin, runAt}
+use Rattle.edit_trials.specs.Trying.{Kin, runAt}
 use Rattle.edit_trials.proofs.Runs.{kin-built}
 use Rattle.calls_edit.proofs.Edits.{repliedWith, edit-accepted}
 use Rattle.call_review.specs.declared.ReviewAnswer.{ReviewAnswer}

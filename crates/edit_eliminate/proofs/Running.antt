@@ -62,11 +62,11 @@ module _ (ws index : List ℕ) (terms : Terms) where
   begun turn e = ap (passes ρ (takeUpBy ρ terms) (suc (candidateCount ρ))) (sym e)
 
   -- where no role is strikable, it ends as it begins
-  pub ended-at-once : (seniors : List ℕ) (turn : Turn) → Underway ws index seniors turn → runIn ws turn ≡ start → set128 (turn .worklist) ≡ 0
+  pub ended-at-once : (seniors : List ℕ) (turn : Turn) → Reached (stateOf ws) ws index seniors turn start → set128 (turn .worklist) ≡ 0
       → Ended (stateOf ws) ws index seniors (turn .progress) end
   unfolding runIn runAt
-  ended-at-once seniors turn u e none =
-      ended ws seniors turn u (kin-same ws) (begun turn e ∙ passes-empty ρ (takeUpBy ρ terms) (candidateCount ρ) (runIn ws turn) none)
+  ended-at-once seniors turn from none =
+      ended ws seniors turn (from .underway) (from .kin) (begun turn (from .run) ∙ passes-empty ρ (takeUpBy ρ terms) (candidateCount ρ) (runIn ws turn) none)
 
   -- ---- the passes: mid, its work and the turn are what those before have left, and `left` more may follow
 
@@ -78,21 +78,21 @@ module _ (ws index : List ℕ) (terms : Terms) where
     pub room : turn .progress .examined + 128 * left ≤ mostExamined
     pub rest : end ≡ passes ρ (takeUpBy ρ terms) left (runIn mid turn)
 
-  pub running-start : (work : List ℕ) (turn : Turn) (left : ℕ) → Underway ws index (take downStart work) turn → Prepared (rolesOf (stateOf ws)) work → runIn ws turn ≡ start
+  pub running-start : (work : List ℕ) (turn : Turn) (left : ℕ) → Reached (stateOf ws) ws index (take downStart work) turn start → Prepared (rolesOf (stateOf ws)) work
       → left ≡ getD ws 2 0 + 1 → Running ws work turn (set128 (turn .worklist)) left
   unfolding runIn runAt begin
-  running-start work turn left u prepared e el =
-      let ready = u .going .ready in
+  running-start work turn left from prepared el =
+      let ready = from .underway .going .ready in
       let few = ready-few ws index (take downStart work) ready in
       let n : left ≡ suc (candidateCount ρ) = el ∙ add-one (getD ws 2 0) ∙ ap suc (sym (roles-count ws index (take downStart work) ready)) in
-      let none : turn .progress .examined ≡ 0 = ap (λ (x : Run). x .examined) e in
+      let none : turn .progress .examined ≡ 0 = ap (λ (x : Run). x .examined) (from .run) in
       record {
-        underway = u;
-        kin = kin-same ws;
+        underway = from .underway;
+        kin = from .kin;
         prepared = prepared;
-        counts = ap (λ (x : Run). x .worklist) e;
+        counts = ap (λ (x : Run). x .worklist) (from .run);
         room = omega arith;
-        rest = rw n (begun turn e);
+        rest = rw n (begun turn (from .run));
       }
 
   module _ (mid work : List ℕ) (turn : Turn) (counted left : ℕ) (p : Running mid work turn counted left) where
@@ -160,21 +160,24 @@ module _ (ws index seniors : List ℕ) (ready : Ready (stateOf ws) ws index seni
     pub first-turn : (w : Weights) (turn : Turn) → Exact ws (turn .progress .counts)
         → turn .progress .quality ≡ model.weigh (weightsIn w) (countsIn (turn .progress .counts)) → turn .progress .quality ≤ mostQuality
         → turn .progress .changed ≡ 0 → turn .progress .examined ≡ 0 → Found ws index' (set128 (turn .worklist))
-        → Underway ws index' seniors turn
-        × (runIn ws turn ≡ begin (rolesOf (stateOf ws)) (weightsIn w) (strikables (rolesOf (stateOf ws)) (stateOf ws .standing)) (stateOf ws .standing))
+        → Reached (stateOf ws) ws index' seniors turn (begin (rolesOf (stateOf ws)) (weightsIn w) (strikables (rolesOf (stateOf ws)) (stateOf ws .standing)) (stateOf ws .standing))
     unfolding runIn runAt begin model.quality
     first-turn w turn exact eq small ec ee found =
+        let ρ = rolesOf (stateOf ws) in
+        let R = stateOf ws .standing in
         let listed = found (stateOf ws) (ready .limits) (ready .afresh) indexed held in
-        let reference = eq ∙ ap (model.weigh (weightsIn w)) exact in (
-          record {
+        let reference = eq ∙ ap (model.weigh (weightsIn w)) exact in
+        record {
+          underway = record {
             going = record { ready = reindexed (stateOf ws) ws index index' seniors ready indexed; exact = exact };
             holders = held;
-            listed = rw listed (λ i h. strikable-stands (rolesOf (stateOf ws)) (stateOf ws .standing) i (strikables-iff (rolesOf (stateOf ws)) (stateOf ws .standing) i .0 h .1));
+            listed = rw listed (λ i h. strikable-stands ρ R i (strikables-iff ρ R i .0 h .1));
             fewer = omega arith;
             quality-small = small;
-          },
-          λ i. record { standing = stateOf ws .standing; worklist = listed i; reference = reference i; changed = ec i; examined = ee i },
-        )
+          };
+          kin = kin-same ws;
+          run = λ i. record { standing = R; worklist = listed i; reference = reference i; changed = ec i; examined = ee i };
+        }
 
     -- what the order of each pass is computed from
     -- the index is that of as many roles as word 2 says

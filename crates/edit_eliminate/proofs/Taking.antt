@@ -56,7 +56,7 @@ module _ (ws index : List ℕ) (terms : Terms) (at : Turn) where
   pub record Taking (mid beside : List ℕ) (turn : Turn) (todo top : ℕ) : Type 0 where
     pub underway : Underway mid index (take downStart beside) turn
     pub kin : Kin (stateOf ws) mid
-    pub prepared : Prepared (rolesOf (stateOf ws)) beside
+    pub prepared : Prepared (rolesOf (stateOf mid)) beside
     pub standing : Stand todo (stateOf mid .standing)
     pub keyed : Keyed top (take 258 (drop ranksStart beside)) todo key
     pub small : top ≤ 128
@@ -129,7 +129,7 @@ module _ (ws index : List ℕ) (terms : Terms) (at : Turn) where
           record {
             underway = rw own (done .underway);
             kin = kin-trans (stateOf ws) mid after (p .kin) (done .kin);
-            prepared = rw eb (seniors-prepared beside seniors whole size ρ (p .prepared));
+            prepared = rw (eb, kin-roles (stateOf mid) after (done .kin)) (seniors-prepared beside seniors whole size (rolesOf (stateOf mid)) (p .prepared));
             standing = λ i h.
                 let a = ∖-iff todo (single k) i .0 (rw et at h) in
                 rw now-standing (up-standing ρ terms k (runIn mid turn) i (p .standing i (a .0)) (λ e. a .1 (single-iff k i .1 (sym e))));
@@ -144,36 +144,30 @@ module _ (ws index : List ℕ) (terms : Terms) (at : Turn) where
         × Prepared (rolesOf (stateOf mid)) beside
     unfolding takeUpAll
     taking-all e =
-        let none : ones todo ≡ 0 = ap ones e ∙ ones-zero in (
-          record {
-            underway = p .underway;
-            kin = p .kin;
-            run = sym (p .run ∙ ap (λ (n : ℕ). takeUpAll ρ (takeUpBy ρ terms) key n todo (runIn mid turn)) none);
-          },
-          rw (kin-roles (stateOf ws) mid (p .kin)) (p .prepared),
-        )
+        let none : ones todo ≡ 0 = ap ones e ∙ ones-zero in
+        let run = p .run ∙ ap (λ (n : ℕ). takeUpAll ρ (takeUpBy ρ terms) key n todo (runIn mid turn)) none in
+        (record { underway = p .underway; kin = p .kin; run = sym run }, p .prepared)
 
--- ---- the ranks of a pass
+-- ---- the ranks of a pass over the roles s
 
-module _ (ws index work : List ℕ) (turn : Turn) (c : ℕ) (u : Underway ws index (take downStart work) turn) (prepared : Prepared (rolesOf (stateOf ws)) work)
-    (e : c ≡ getD ws 2 0) where
+module _ (ws index work : List ℕ) (turn : Turn) (c s : ℕ) (u : Underway ws index (take downStart work) turn) (prepared : Prepared (rolesOf (stateOf ws)) work)
+    (stand : Stand s (stateOf ws .standing)) (e : c ≡ getD ws 2 0) where
   count : candidateCount (rolesOf (stateOf ws)) ≡ c
   count = roles-count ws index (take downStart work) (u .going .ready) ∙ sym e
 
-  pub ranks-asked : PreparedFor c work × (set128 (turn .worklist) < 2 ^ c)
-  ranks-asked =
-      let below = stand-below ws index (take downStart work) (set128 (turn .worklist)) (u .going .ready) (u .listed) in
-      ((rolesOf (stateOf ws), count, prepared), rw count at below)
+  pub ranks-asked : PreparedFor c work × (s < 2 ^ c)
+  ranks-asked = ((rolesOf (stateOf ws), count, prepared), rw count at (stand-below ws index (take downStart work) s (u .going .ready) stand))
 
   -- filled, they are the order of the pass, and the rest of the work is as it was
   pub ranks-filled : (work' : List ℕ) (counted : ℕ) → length work' ≡ workLength → counted ≡ strikables (rolesOf (stateOf ws)) (stateOf ws .standing)
       → take ranksStart work' ≡ take ranksStart work
-      → ((st : State) → Limits st → candidateCount (rolesOf st) ≡ c → Prepared (rolesOf st) work → Keyed c (take 258 (drop ranksStart work')) (set128 (turn .worklist)) (redundancy (rolesOf st) counted))
-      → Underway ws index (take downStart work') turn × Prepared (rolesOf (stateOf ws)) work' × Ordered ws work' (set128 (turn .worklist))
+      → ((st : State) → Limits st → candidateCount (rolesOf st) ≡ c → Prepared (rolesOf st) work → Keyed c (take 258 (drop ranksStart work')) s (redundancy (rolesOf st) counted))
+      → Underway ws index (take downStart work') turn × Prepared (rolesOf (stateOf ws)) work' × Ordered ws work' s
   ranks-filled work' counted size ec same filled =
       let whole = prepared .reach .size in
       let kept = take-unchanged ranksStart work work' same in
-      let seniors : take downStart work' ≡ take downStart work = unchanged-take downStart work work' (size ∙ sym whole) (omega arith) (λ i from to. kept i from (omega arith)) in (
+      let seniors : take downStart work' ≡ take downStart work =
+      unchanged-take downStart work work' (size ∙ sym whole) (omega arith) (λ i from to. kept i from (omega arith)) in (
         rw seniors u,
         prepared-same (rolesOf (stateOf ws)) work work' size (λ i from to. kept i (omega arith) to) prepared,
         rw (count, sym ec) (filled (stateOf ws) (u .going .ready .limits) count prepared),

@@ -10,7 +10,7 @@ ghost use Rattle.rows.specs.Linked.{Ready};
 ghost use Rattle.quality.specs.Numbers.{weightsIn, toleranceIn};
 ghost use Rattle.edit_trials.specs.Trying.{Exact};
 ghost use Rattle.edit_order.specs.Work.{workLength, downStart, Prepared};
-ghost use Rattle.edit_eliminate.specs.Passing.{Allowed, runIn, Underway, Ended};
+ghost use Rattle.edit_eliminate.specs.Passing.{Allowed, Reached, Ended};
 use crate::pass::pass;
 use crate::turn::Terms;
 use crate::turn::Turn;
@@ -31,10 +31,9 @@ fn run_passes(
     terms: Terms,
     turn: Turn,
 ) -> Progress
-    requires { ⌜ Underway (now rec) (now index) (take downStart (now work)) turn ⌝ }
+    requires { ⌜ Reached (stateOf (now rec)) (now rec) (now index) (take downStart (now work)) turn (begin (rolesOf (stateOf (now rec))) (weightsIn (terms .weights)) (strikables (rolesOf (stateOf (now rec))) (stateOf (now rec) .standing)) (stateOf (now rec) .standing)) ⌝ }
     requires { ⌜ Allowed terms ⌝ }
     requires { ⌜ Prepared (rolesOf (stateOf (now rec))) (now work) ⌝ }
-    requires { ⌜ runIn (now rec) turn ≡ begin (rolesOf (stateOf (now rec))) (weightsIn (terms .weights)) (strikables (rolesOf (stateOf (now rec))) (stateOf (now rec) .standing)) (stateOf (now rec) .standing) ⌝ }
     requires { ⌜ length (now rec) ≡ recordLength ⌝ }
     requires { ⌜ length (now index) ≡ indexLength ⌝ }
     requires { ⌜ length (now work) ≡ workLength ⌝ }

@@ -7,7 +7,7 @@ ghost use Rattle.sets.specs.Truth.{total};
 ghost use Rattle.model.specs.Lists.{setAt};
 ghost use Rattle.model.specs.Record.{recordLength, roleRowsOf};
 ghost use Rattle.model.specs.Quality as model;
-ghost use Rattle.quality.specs.Numbers.{countsIn, mostMembers, mostPermissions, mostLinks, Few};
+ghost use Rattle.quality.specs.Numbers.{countsIn, mostPermissions, mostLinks, Few};
 use tables::JUNIORS;
 use tables::LENGTH;
 use tables::MEMBERS;

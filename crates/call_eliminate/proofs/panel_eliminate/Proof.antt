@@ -13,6 +13,7 @@ use Rattle.model.proofs.Refusals.{unfit-iff, eliminate-check}
 use Rattle.model.proofs.Sound.{sound-counts}
 use Rattle.stores.proofs.Stores.{blank-part}
 use Rattle.rows.specs.Linked.{Ready}
+use Rattle.edit_order.specs.Work.{workLength, downStart}
 use Rattle.quality.specs.Numbers.{weightsIn, toleranceIn, weightsOf, toleranceOf}
 use Rattle.calls_edit.proofs.Edits.{edit-unfit, edit-refused, fit-length, fit-few}
 use Rattle.call_eliminate.proofs.Eliminating.{entered-size, entered-ready, refused, run-ended}
@@ -21,10 +22,10 @@ use Rattle.call_eliminate.proofs.panel_eliminate.Tie as tie
 
 -- the work as it is made
 abbrev blanks : List ℕ
-blanks = replicate 1796 0
+blanks = replicate workLength 0
 
-blanks-length : length blanks ≡ 1796
-blanks-length = length-replicate {A = ℕ} 1796 0
+blanks-length : length blanks ≡ workLength
+blanks-length = length-replicate {A = ℕ} workLength 0
 
 abbrev start : tie.Else1 → tie.Start
 start c = c .before .before .before .before .before .before .before .before
@@ -56,7 +57,7 @@ part-work-end : tie.Need-part-work-end
 part-work-end c = search needs
 
 enter-requires : tie.Need-enter-requires
-enter-requires c κs = (search needs, (search needs, blank-part 1796 0 256))
+enter-requires c κs = (search needs, (search needs, blank-part workLength 0 downStart))
 
 refused-requires : tie.Need-refused-requires
 refused-requires c κs = search needs

@@ -1,7 +1,7 @@
 -- The holders are filled, and the quality at the start is that of the record; where no role is strikable it is the end already.
 -- Assumes nothing.
 use borrow.Author.Needs.{needs}
-use mathlib.Core.Path.{_≡_, refl, sym, _∙_}
+use mathlib.Core.Path.{refl, sym, _∙_}
 use lib.ListN.{take}
 use Rattle.sets.proofs.Truth.{eqb-iff}
 use Rattle.model.specs.Coverage.{strikables}
@@ -13,7 +13,7 @@ use Rattle.quality.specs.Numbers.{weightsIn}
 use Rattle.edit_trials.proofs.Runs.{ready-few, ready-weighed}
 use Rattle.edit_order.specs.Work.{downStart}
 use Rattle.edit_eliminate.specs.declared.turn.Turn.{Turn}
-use Rattle.edit_eliminate.specs.Passing.{runIn, Underway}
+use Rattle.edit_eliminate.specs.Passing.{Reached}
 use Rattle.edit_eliminate.proofs.Running.{ended-at-once, permissions-few, index-of, all-held, first-turn, all-prepared}
 use Rattle.edit_eliminate.proofs.all.eliminate_all.Statement.{statement}
 use Rattle.edit_eliminate.proofs.all.eliminate_all.Tie as tie
@@ -39,8 +39,10 @@ turn c =
     }
 
 first : (c : tie.After-strikable-roles)
-    → Underway (start (filled c) .args .rec .now) (filled c .fill-holders .last .1 .0) (take downStart (start (filled c) .args .work .now)) (turn c)
-    × (runIn (start (filled c) .args .rec .now) (turn c) ≡ begin (rolesOf (stateOf (start (filled c) .args .rec .now))) (weightsIn (start (filled c) .args .terms .weights)) (strikables (rolesOf (stateOf (start (filled c) .args .rec .now))) (stateOf (start (filled c) .args .rec .now) .standing)) (stateOf (start (filled c) .args .rec .now) .standing))
+    → let ws = start (filled c) .args .rec .now in
+    let ρ = rolesOf (stateOf ws) in
+    Reached (stateOf ws) ws (filled c .fill-holders .last .1 .0) (take downStart (start (filled c) .args .work .now)) (turn c)
+    (begin ρ (weightsIn (start (filled c) .args .terms .weights)) (strikables ρ (stateOf ws .standing)) (stateOf ws .standing))
 first c =
     let given = start (filled c) .pre in
     let index = held (filled c) in
@@ -76,8 +78,7 @@ same-length-2 c = search needs
 
 returns : tie.Need-returns
 returns c =
-    let begins = first (c .before .before) in
-    ended-at-once _ _ _ _ (turn (c .before .before)) (begins .0) (begins .1) (eqb-iff _ _ .0 (sym (c .before .is-empty .ensures) ∙ c .if1 .taken))
+    ended-at-once _ _ _ _ (turn (c .before .before)) (first (c .before .before)) (eqb-iff _ _ .0 (sym (c .before .is-empty .ensures) ∙ c .if1 .taken))
 
 fill-order-requires : tie.Need-fill-order-requires
 fill-order-requires c κs =
@@ -91,8 +92,7 @@ run-passes-requires c κs =
     let given = start (filled listed) .pre in
     let ordered = c .before .before .before .before .before .fill-order in
     let index = held (filled listed) in
-    let begins = first listed in
-    (rw (ordered .ensures .0) (begins .0), (given .1 .0, (all-prepared _ _ _ (given .0) _ (index .0) (index .1) _ _ _ refl refl (ordered .ensures .1), (begins .1, (given .1 .1 .1 .0, (search needs, search needs))))))
+    (rw (ordered .ensures .0) (first listed), (given .1 .0, (all-prepared _ _ _ (given .0) _ (index .0) (index .1) _ _ _ refl refl (ordered .ensures .1), (given .1 .1 .1 .0, (search needs, search needs)))))
 
 same-length-3 : tie.Need-same-length-3
 same-length-3 c = search needs

@@ -29,10 +29,10 @@ slice-read-left : tie.Need-slice-read-left Inv-loop μ-loop
 slice-read-left c = search needs
 
 add-left : tie.Need-add-left Inv-loop μ-loop
-add-left c = let few = ready-few _ _ _ (c .before .before .before .before .pre .0 .going .ready) in omega arith
+add-left c = let few = ready-few _ _ _ (c .before .before .before .before .pre .0 .underway .going .ready) in omega arith
 
 loop-holds : tie.Need-loop-holds Inv-loop μ-loop
-loop-holds c = let given = c .before .before .before .before .before .pre in (search needs, search needs, running-start _ _ _ _ _ _ (given .0) (given .1 .1 .0) (given .1 .1 .1 .0) refl)
+loop-holds c = let given = c .before .before .before .before .before .pre in (search needs, search needs, running-start _ _ _ _ _ _ (given .0) (given .1 .1 .0) refl)
 
 is-empty-requires : tie.Need-is-empty-requires Inv-loop μ-loop
 is-empty-requires c κs = search needs
@@ -59,7 +59,7 @@ same-length-3 c =
     let passed = c .before .before .before .before .before .before .before .before in
     let loop = passed .before .before .before .before .before .before in
     let size = loop .loop .inv .0 in
-    let first = loop .before .before .before .before .before .before .pre .1 .1 .1 .1 .0 in
+    let first = loop .before .before .before .before .before .before .pre .1 .1 .1 .0 in
     omega (arith, passed .pass .kept)
 
 same-length-4 : tie.Need-same-length-4 Inv-loop μ-loop
@@ -67,7 +67,7 @@ same-length-4 c =
     let passed = c .before .before .before .before .before .before .before .before in
     let loop = passed .before .before .before .before .before .before in
     let size = loop .loop .inv .1 in
-    let first = loop .before .before .before .before .before .before .pre .1 .1 .1 .1 .1 .1 in
+    let first = loop .before .before .before .before .before .before .pre .1 .1 .1 .1 .1 in
     omega (arith, passed .pass .kept)
 
 returns-2 : tie.Need-returns-2 Inv-loop μ-loop

@@ -4,11 +4,13 @@ use borrow.Author.Needs.{needs}
 use mathlib.Core.Path.{_≡_, refl}
 use native.Mathlib.Omega.{arith}
 use lib.Count.{ones}
-use lib.ListN.{length}
+use mathlib.Core.List.{_++_}
+use lib.ListN.{length, drop}
 use Rattle.sets.specs.Held.{set128}
 use Rattle.hierarchy.proofs.Sieving.{fewer, not-empty, is-empty}
 use Rattle.model.specs.Record.{recordLength}
 use Rattle.stores.proofs.Stores.{part-back}
+use Rattle.edit_order.specs.Work.{downStart}
 use Rattle.edit_eliminate.proofs.Taking.{Taking, taking-start, taking-bound, taking-more, taking-all}
 use Rattle.edit_eliminate.proofs.pass.take_up_all.Statement.{statement}
 use Rattle.edit_eliminate.proofs.pass.take_up_all.Tie as tie
@@ -19,6 +21,25 @@ Inv-loop rec₀ index work₀ terms run₀ todo₀ top₀ rec work run todo top 
 
 abbrev μ-loop : tie.MeasureT-loop
 μ-loop rec₀ index work₀ terms run₀ todo₀ top₀ rec work run todo top = ones (set128 todo)
+
+-- after a turn: the role that was next, where the turn began, and what is then left
+abbrev front : tie.After-remove Inv-loop μ-loop → tie.After-foremost Inv-loop μ-loop
+front c = c .before .before .before .before .before .before .before .before
+
+abbrev loop : tie.After-remove Inv-loop μ-loop → tie.At-loop Inv-loop μ-loop
+loop c = front c .before .before .before .before .before
+
+abbrev start : tie.After-remove Inv-loop μ-loop → tie.Start Inv-loop μ-loop
+start c = loop c .before .before .before .before .before .before
+
+fewer-left : (c : tie.After-remove Inv-loop μ-loop)
+    → Taking (start c .args .rec .now) (start c .args .index .now) (start c .args .terms) (start c .args .turn) (c .before .before .before .before .before .take-up .last .0)
+    (c .before .before .before .before .before .take-up .last .1 .1 .0 ++ drop downStart (loop c .loop .work)) (c .before .before .before .before .before .take-up .result) (set128 (c .remove .result)) (front c .foremost .result .rank)
+fewer-left c =
+    let turn = c .before .before .before .before .before .take-up in
+    let inv = loop c .loop .inv .1 in
+    taking-more _ _ _ _ _ _ _ _ _ inv _ _ (front c .foremost .ensures) _ _ _ _ _ (turn .ensures)
+    (part-back _ 0 downStart _ (turn .ensures .underway .going .ready .linked .size) (rw (inv .prepared .reach .size) (omega arith))) (c .remove .ensures)
 
 slice-read-top : tie.Need-slice-read-top Inv-loop μ-loop
 slice-read-top c = search needs
@@ -62,14 +83,10 @@ remove-requires : tie.Need-remove-requires Inv-loop μ-loop
 remove-requires c κs = search needs
 
 loop-less : tie.Need-loop-less Inv-loop μ-loop
-loop-less c = rw (c .remove .ensures) (fewer _ _ (c .before .before .before .before .before .before .before .before .foremost .ensures .there))
+loop-less c = rw (c .remove .ensures) (fewer _ _ (front c .foremost .ensures .there))
 
 loop-again : tie.Need-loop-again Inv-loop μ-loop
-loop-again c =
-    let front = c .before .before .before .before .before .before .before .before in
-    let turn = c .before .before .before .before .before .take-up in
-    let inv = front .before .before .before .before .before .loop .inv .1 in
-    (search needs, taking-more _ _ _ _ _ _ _ _ _ inv _ _ (front .foremost .ensures) _ _ _ _ _ (turn .ensures) (part-back _ 0 256 _ (turn .ensures .underway .going .ready .linked .size) (rw (inv .prepared .reach .size) (omega arith))) (c .remove .ensures))
+loop-again c = (search needs, fewer-left c)
 
 same-length : tie.Need-same-length Inv-loop μ-loop
 same-length c = search needs
