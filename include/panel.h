@@ -28,6 +28,11 @@
  * It may be copied, stored and lent again. It is sound when its header and crew rows keep the limits, its candidates
  * are those mined from its crew rows, its last three parts are the building of its standing roles, each permission
  * in a crew row is covered by a standing role, and everything else is zero. Every call that is accepted leaves it so.
+ *
+ * After an accepted panel_mine any list of strikes, restorations, eliminations and reviews on that record, refused ones
+ * included, leaves the standing roles and gives the answers of the customer's plain machine, since each call is proved
+ * to be one step of it. Then everyone is authorised for exactly what the crew list grants, and every word is what
+ * building afresh gives: the customer's condition 3, crates/model/specs/Claim.antt, `Condition3`.
  */
 #ifndef PANEL_H
 #define PANEL_H
