@@ -21,7 +21,8 @@ use tables::PERMISSIONS;
 use tables::load256;
 
 pub fn may(rec: &[u64], u: usize, p: usize) -> bool
-    requires { ⌜ (length (now rec) ≡ recordLength) × (getD (now rec) 2 0 ≤ 128) ⌝ }
+    requires { ⌜ length (now rec) ≡ recordLength ⌝ }
+    requires { ⌜ getD (now rec) 2 0 ≤ 128 ⌝ }
     ensures { λ r. ⌜ (So (sound (now (rec .entry))) → r ≡ model.may (candidateCount (rolesOf (stateOf (now (rec .entry))))) (roleRowsOf (now (rec .entry))) u p) ⌝ }
 {
     let c = rec[2] as usize;

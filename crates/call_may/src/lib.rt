@@ -13,7 +13,8 @@ pub struct MayAnswer {
 }
 
 fn refused(code: u64) -> MayAnswer
-    ensures { λ r. ⌜ (r .code ≡ code) × (r .allowed ≡ 0) ⌝ }
+    ensures { λ r. ⌜ r .code ≡ code ⌝ }
+    ensures { λ r. ⌜ r .allowed ≡ 0 ⌝ }
 {
     MayAnswer { code, allowed: 0 }
 }

@@ -19,7 +19,8 @@ pub struct MineAnswer {
 }
 
 fn refused(code: u64) -> MineAnswer
-    ensures { λ r. ⌜ (r .code ≡ code) × (r .candidates ≡ 0) ⌝ }
+    ensures { λ r. ⌜ r .code ≡ code ⌝ }
+    ensures { λ r. ⌜ r .candidates ≡ 0 ⌝ }
 {
     MineAnswer {
         code,

@@ -16,7 +16,8 @@ pub struct QualityAnswer {
 }
 
 fn refused(code: u64) -> QualityAnswer
-    ensures { λ r. ⌜ (r .code ≡ code) × (r .quality ≡ 0) ⌝ }
+    ensures { λ r. ⌜ r .code ≡ code ⌝ }
+    ensures { λ r. ⌜ r .quality ≡ 0 ⌝ }
 {
     QualityAnswer { code, quality: 0 }
 }

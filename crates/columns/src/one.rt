@@ -10,7 +10,8 @@ use sets::with_bit;
 
 // The places below n whose set in the table holds k: a column of the table, read downward.
 pub fn column(table: &[u64], n: usize, k: usize) -> Set128
-    requires { ⌜ (n ≤ 128) × (2 * n ≤ length (now table)) ⌝ }
+    requires { ⌜ n ≤ 128 ⌝ }
+    requires { ⌜ 2 * n ≤ length (now table) ⌝ }
     ensures { λ r. ⌜ set128 r ≡ collect n (λ i. has (setAt 2 (now (table .entry)) (2 * i)) k) ⌝ }
 {
     column_of(table, 2, n, k)
@@ -18,7 +19,8 @@ pub fn column(table: &[u64], n: usize, k: usize) -> Set128
 
 // The same of a table with w words to a set. A word of the answer is gathered at a time.
 pub fn column_of(table: &[u64], w: usize, n: usize, k: usize) -> Set128
-    requires { ⌜ (n ≤ 128) × (w * n ≤ length (now table)) ⌝ }
+    requires { ⌜ n ≤ 128 ⌝ }
+    requires { ⌜ w * n ≤ length (now table) ⌝ }
     ensures { λ r. ⌜ set128 r ≡ collect n (λ i. has (setAt w (now (table .entry)) (w * i)) k) ⌝ }
 {
     let p = place_of(k);

@@ -18,7 +18,8 @@ use tables::store128;
 
 // Puts the roles s of one more user after the first `count` sets of the table, unless the last of them is the same. Answers how many there are then.
 fn add_sample(table: &mut [u64], count: usize, s: Set128) -> usize
-    requires { ⌜ (length (now table) ≡ 256) × (count < 128) ⌝ }
+    requires { ⌜ length (now table) ≡ 256 ⌝ }
+    requires { ⌜ count < 128 ⌝ }
     ensures { λ r. ⌜ r ≤ count + 1 ⌝ }
     ensures { λ r. ⌜ ((users u : ℕ) (roles : ℕ → ℕ) → SamplesOf users roles count (entries (now (table .entry))) → set128 s ≡ roles u → SamplesOf (users ∪ single u) roles r (entries (now (table .exit)))) ⌝ }
 {

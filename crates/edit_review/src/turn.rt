@@ -30,7 +30,8 @@ pub fn try_restore(
     requires { ⌜ Going (now rec) (now index) (now seniors) at ⌝ }
     requires { ⌜ So (weightsAllowed (weightsIn w)) ⌝ }
     requires { ⌜ k < getD (now rec) 2 0 ⌝ }
-    requires { ⌜ (at .changed ≤ turnRoom) × (at .examined ≤ turnRoom) ⌝ }
+    requires { ⌜ at .changed ≤ turnRoom ⌝ }
+    requires { ⌜ at .examined ≤ turnRoom ⌝ }
     requires { ⌜ (length (now rec) ≡ recordLength) × (length (now index) ≡ indexLength) × (length (now seniors) ≡ 256) ⌝ }
     ensures { λ r. ⌜ Stepped (tryRestore (rolesOf (stateOf (now (rec .entry)))) (weightsIn w) k) (now (rec .entry)) at (now (rec .exit)) (now (index .entry)) (now (seniors .exit)) r ⌝ }
 {

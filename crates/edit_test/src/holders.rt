@@ -25,7 +25,8 @@ use tables::store128;
 // The lowest item of a set of permissions that has one.
 pub fn lowest_permission(s: Set256) -> usize
     requires { ⌜ set256 s ≢ 0 ⌝ }
-    ensures { λ r. ⌜ So (has (set256 s) r) × (r < 256) ⌝ }
+    ensures { λ r. ⌜ So (has (set256 s) r) ⌝ }
+    ensures { λ r. ⌜ r < 256 ⌝ }
 {
     let Item::At(p) = s.lowest() else {
         return 0;

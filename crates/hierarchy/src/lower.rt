@@ -13,7 +13,8 @@ use tables::load256;
 // The roles below k whose set lies within that of k. A proper subset has a lower number, so these are all the roles that can be junior to k. A
 // word of the answer is gathered at a time.
 pub fn lower_of(table: &[u64], k: usize) -> Set128
-    requires { ⌜ (k < 128) × (4 * k + 4 ≤ length (now table)) ⌝ }
+    requires { ⌜ k < 128 ⌝ }
+    requires { ⌜ 4 * k + 4 ≤ length (now table) ⌝ }
     ensures { λ r. ⌜ set128 r ≡ collect k (λ j. subset (setAt 4 (now (table .entry)) (4 * j)) (setAt 4 (now (table .entry)) (4 * k))) ⌝ }
 {
     let s = load256(table, 4 * k);

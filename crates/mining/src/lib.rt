@@ -36,7 +36,8 @@ pub enum Mined {
 
 // Puts x, which the table lacks, at its place.
 fn put(table: &mut [u64], n: usize, at: usize, x: Set256) -> Admitted
-    requires { ⌜ Framed (now table) n × Between n (rowsAt n (now table) 0) (set256 x) at ⌝ }
+    requires { ⌜ Framed (now table) n ⌝ }
+    requires { ⌜ Between n (rowsAt n (now table) 0) (set256 x) at ⌝ }
     ensures { λ r. ⌜ Admits (place (set256 x) (rowsAt n (now (table .entry)) 0)) (now (table .exit)) r ⌝ }
 {
     if n == LIMIT {

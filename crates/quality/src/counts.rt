@@ -25,8 +25,10 @@ pub struct Counts {
 
 // The counts over the rows of the record's roles.
 pub fn count_rows(rec: &[u64]) -> Counts
-    requires { ⌜ (length (now rec) ≡ recordLength) × (getD (now rec) 2 0 ≤ 128) ⌝ }
-    ensures { λ r. ⌜ (countsIn r ≡ model.counted (getD (now (rec .entry)) 2 0) (roleRowsOf (now (rec .entry))) (setAt 2 (now (rec .entry)) 4)) × Few r ⌝ }
+    requires { ⌜ length (now rec) ≡ recordLength ⌝ }
+    requires { ⌜ getD (now rec) 2 0 ≤ 128 ⌝ }
+    ensures { λ r. ⌜ countsIn r ≡ model.counted (getD (now (rec .entry)) 2 0) (roleRowsOf (now (rec .entry))) (setAt 2 (now (rec .entry)) 4) ⌝ }
+    ensures { λ r. ⌜ Few r ⌝ }
 {
     let c = rec[2] as usize;
     let roles = load128(rec, STANDING).count();
@@ -43,8 +45,10 @@ pub fn count_rows(rec: &[u64]) -> Counts
 
 // How many items the first c sets of a table have together.
 fn count128(table: &[u64], c: usize) -> usize
-    requires { ⌜ (c ≤ 128) × (2 * c ≤ length (now table)) ⌝ }
-    ensures { λ r. ⌜ (r ≡ total c (λ k. ones (setAt 2 (now (table .entry)) (2 * k)))) × (r ≤ mostLinks) ⌝ }
+    requires { ⌜ c ≤ 128 ⌝ }
+    requires { ⌜ 2 * c ≤ length (now table) ⌝ }
+    ensures { λ r. ⌜ r ≡ total c (λ k. ones (setAt 2 (now (table .entry)) (2 * k))) ⌝ }
+    ensures { λ r. ⌜ r ≤ mostLinks ⌝ }
 {
     let end = 2 * c;
     let mut n = 0;
@@ -57,8 +61,10 @@ fn count128(table: &[u64], c: usize) -> usize
 }
 
 fn count256(table: &[u64], c: usize) -> usize
-    requires { ⌜ (c ≤ 128) × (4 * c ≤ length (now table)) ⌝ }
-    ensures { λ r. ⌜ (r ≡ total c (λ k. ones (setAt 4 (now (table .entry)) (4 * k)))) × (r ≤ mostPermissions) ⌝ }
+    requires { ⌜ c ≤ 128 ⌝ }
+    requires { ⌜ 4 * c ≤ length (now table) ⌝ }
+    ensures { λ r. ⌜ r ≡ total c (λ k. ones (setAt 4 (now (table .entry)) (4 * k))) ⌝ }
+    ensures { λ r. ⌜ r ≤ mostPermissions ⌝ }
 {
     let end = 4 * c;
     let mut n = 0;

@@ -16,7 +16,8 @@ pub struct Place {
 
 // The only place where an item becomes a word and a bit.
 pub fn place_of(i: usize) -> Place
-    ensures { λ r. ⌜ (r .word ≡ i / 64) × (r .bit ≡ i % 64) ⌝ }
+    ensures { λ r. ⌜ r .word ≡ i / 64 ⌝ }
+    ensures { λ r. ⌜ r .bit ≡ i % 64 ⌝ }
 {
     Place {
         word: i / 64,
@@ -41,7 +42,8 @@ pub fn with_bit(w: u64, i: usize, held: bool) -> u64
 }
 
 pub fn count_of(w: u64) -> usize
-    ensures { λ r. ⌜ (r ≡ ones w) × (r ≤ 64) ⌝ }
+    ensures { λ r. ⌜ r ≡ ones w ⌝ }
+    ensures { λ r. ⌜ r ≤ 64 ⌝ }
 {
     u64::count_ones(w) as usize
 }

@@ -17,7 +17,8 @@ pub enum Found {
 
 // Looks for x among the first n sets, which grow. Each turn halves what is left: 8 turns at most for 128 sets, 7 for fewer.
 pub fn search(table: &[u64], n: usize, x: Set256) -> Found
-    requires { ⌜ (4 * n ≤ length (now table)) × Growing (rowsAt n (now table) 0) ⌝ }
+    requires { ⌜ 4 * n ≤ length (now table) ⌝ }
+    requires { ⌜ Growing (rowsAt n (now table) 0) ⌝ }
     ensures { λ r. ⌜ Finds n (rowsAt n (now (table .entry)) 0) (set256 x) r ⌝ }
 {
     let mut low = 0;
@@ -39,7 +40,8 @@ pub fn search(table: &[u64], n: usize, x: Set256) -> Found
 
 // Moves the sets from place `at` on up by one place, the last word first, and puts x at `at`.
 pub fn insert(table: &mut [u64], n: usize, at: usize, x: Set256)
-    requires { ⌜ (at ≤ n) × (4 * (n + 1) ≤ length (now table)) ⌝ }
+    requires { ⌜ at ≤ n ⌝ }
+    requires { ⌜ 4 * (n + 1) ≤ length (now table) ⌝ }
     ensures { λ r. ⌜ Inserts n at (set256 x) (now (table .entry)) (now (table .exit)) ⌝ }
 {
     let end = 4 * at + 4;

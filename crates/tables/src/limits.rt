@@ -28,7 +28,8 @@ pub fn limits_kept(n: u64, m: u64) -> bool
 
 // Whether no row of the n users has a permission at m or above.
 pub fn rows_within(crew: &[u64], at: usize, n: usize, m: usize) -> bool
-    requires { ⌜ (at + 4 * n ≤ length (now crew)) × (m ≤ 256) ⌝ }
+    requires { ⌜ at + 4 * n ≤ length (now crew) ⌝ }
+    requires { ⌜ m ≤ 256 ⌝ }
     ensures { λ r. ⌜ r ≡ rowsWithin m (rowsAt n (now (crew .entry)) at) ⌝ }
 {
     let inside = Set256::below(m);
