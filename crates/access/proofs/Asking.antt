@@ -22,7 +22,7 @@ use Rattle.model.proofs.Chains.{reached-lt, RoleRowsBelow}
 use Rattle.model.proofs.Steps.{limits-ordered}
 use Rattle.model.proofs.Claim.{sound-fit}
 use Rattle.model.proofs.Sound.{row-juniors, row-permissions, row-members, sound-count, sound-few, sound-rows, sound-below}
-use Rattle.tables.specs.Tables.{Holds}
+use Rattle.tables.specs.Tables.{HoldsSets}
 use Rattle.tables.proofs.Parts.{setAt-part}
 use Rattle.access.specs.Reach.{Downward}
 
@@ -38,7 +38,7 @@ module _ (ws : List ℕ) (h : So (sound ws)) where
   -- the code's own steps: the direct roles of u, what these reach, and whether one of that has p
   pub may-found : (u p direct found : ℕ) (r : Bool)
       → direct ≡ collect (getD ws 2 0) (λ k. has (setAt 2 (take 256 (drop membersStart ws)) (2 * k)) u)
-      → ((b : RoleRows) (c : ℕ) → c ≤ 128 → Holds 2 c (b .juniors) (take 256 (drop juniorsStart ws)) → Downward c b → direct < 2 ^ c → found ≡ reached (link b) c direct)
+      → ((b : RoleRows) (c : ℕ) → c ≤ 128 → HoldsSets 2 c (b .juniors) (take 256 (drop juniorsStart ws)) → Downward c b → direct < 2 ^ c → found ≡ reached (link b) c direct)
       → r ≡ any 128 (λ j. has found j and has (setAt 4 (take 512 (drop permissionsStart ws)) (4 * j)) p)
       → r ≡ may (candidateCount (rolesOf (stateOf ws))) (roleRowsOf ws) u p
   unfolding may rolesReached directRoles

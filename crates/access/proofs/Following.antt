@@ -15,7 +15,7 @@ use Rattle.model.specs.Lists.{setAt}
 use Rattle.model.specs.Hierarchy.{RoleRows}
 use Rattle.model.specs.Chains.{link, reached}
 use Rattle.model.proofs.Chains.{closed-chain, reaches-more, reached-iff}
-use Rattle.tables.specs.Tables.{Holds}
+use Rattle.tables.specs.Tables.{HoldsSets}
 use Rattle.access.specs.Reach.{Downward}
 
 -- t has been found from s, and the links of its roles from k up have been followed
@@ -80,7 +80,7 @@ module _ (b : RoleRows) (c s : ℕ) (few : c ≤ 128) (down : Downward c b) (sma
 -- for all rows that the table of juniors can stand for
 abbrev pub Following : List ℕ → ℕ → ℕ → ℕ → Type 0
 Following juniors s k t =
-    (b : RoleRows) (c : ℕ) → c ≤ 128 → Holds 2 c (b .juniors) juniors → Downward c b → s < 2 ^ c → Followed b c s k t
+    (b : RoleRows) (c : ℕ) → c ≤ 128 → HoldsSets 2 c (b .juniors) juniors → Downward c b → s < 2 ^ c → Followed b c s k t
 
 pub following-none : (juniors : List ℕ) (s : ℕ) → Following juniors s 128 s
 following-none juniors s b c few h down small = followed-none b c s few down small
@@ -96,5 +96,5 @@ following-more juniors s k p t x t' inv e ex et b c few h down small =
     (λ y. rw (et ∙ if-false (has t p) (t ∪ x) t y) (followed-past b c s few down small p t f y))
 
 pub following-all : (juniors : List ℕ) (s k t : ℕ) → Following juniors s k t → k ≡ 0
-    → (b : RoleRows) (c : ℕ) → c ≤ 128 → Holds 2 c (b .juniors) juniors → Downward c b → s < 2 ^ c → t ≡ reached (link b) c s
+    → (b : RoleRows) (c : ℕ) → c ≤ 128 → HoldsSets 2 c (b .juniors) juniors → Downward c b → s < 2 ^ c → t ≡ reached (link b) c s
 following-all juniors s k t inv e b c few h down small = followed-all b c s few down small t (rw e at (inv b c few h down small))

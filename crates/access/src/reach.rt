@@ -6,7 +6,7 @@ ghost use Rattle.sets.specs.Sets.{has, _∪_};
 ghost use Rattle.sets.specs.Truth.{if_then_else_};
 ghost use Rattle.model.specs.Hierarchy.{RoleRows};
 ghost use Rattle.model.specs.Chains.{link, reached};
-ghost use Rattle.tables.specs.Tables.{Holds};
+ghost use Rattle.tables.specs.Tables.{HoldsSets, table128Length};
 ghost use Rattle.access.specs.Reach.{Downward};
 use sets::Set128;
 use tables::load128;
@@ -14,8 +14,8 @@ use tables::load128;
 // The roles that those of s reach by zero or more links. A junior has a lower number, so one pass downward meets each role after all that
 // lead to it.
 pub fn reached_from(juniors: &[u64], s: Set128) -> Set128
-    requires { ⌜ length (now juniors) ≡ 256 ⌝ }
-    ensures { λ r. ⌜ ((b : RoleRows) (c : ℕ) → c ≤ 128 → Holds 2 c (b .juniors) (now (juniors .entry)) → Downward c b → set128 s < 2 ^ c → set128 r ≡ reached (link b) c (set128 s)) ⌝ }
+    requires { ⌜ length (now juniors) ≡ table128Length ⌝ }
+    ensures { λ r. ⌜ ((b : RoleRows) (c : ℕ) → c ≤ 128 → HoldsSets 2 c (b .juniors) (now (juniors .entry)) → Downward c b → set128 s < 2 ^ c → set128 r ≡ reached (link b) c (set128 s)) ⌝ }
 {
     let mut found = s;
     let mut k = 128;

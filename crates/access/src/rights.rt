@@ -11,6 +11,7 @@ ghost use Rattle.model.specs.Hierarchy.{candidateCount};
 ghost use Rattle.model.specs.Chains as model;
 ghost use Rattle.model.specs.State.{rolesOf};
 ghost use Rattle.model.specs.Record.{recordLength, stateOf, sound, roleRowsOf};
+ghost use Rattle.tables.specs.Tables.{table256Length};
 use crate::reach::reached_from;
 use columns::column;
 use sets::Set128;
@@ -33,7 +34,7 @@ pub fn may(rec: &[u64], u: usize, p: usize) -> bool
 
 // Whether one of the roles has p in its set.
 fn some_has(table: &[u64], roles: Set128, p: usize) -> bool
-    requires { ⌜ length (now table) ≡ 512 ⌝ }
+    requires { ⌜ length (now table) ≡ table256Length ⌝ }
     ensures { λ r. ⌜ r ≡ any 128 (λ j. has (set128 roles) j and has (setAt 4 (now (table .entry)) (4 * j)) p) ⌝ }
 {
     let mut j = 0;

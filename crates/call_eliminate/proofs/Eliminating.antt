@@ -17,7 +17,7 @@ use Rattle.rows.specs.Linked.{Ready}
 use Rattle.edit_order.specs.Work.{workLength, downStart}
 use Rattle.edit_trials.specs.declared.progress.Progress.{Progress}
 use Rattle.edit_trials.specs.Trying.{runAt}
-use Rattle.edit_eliminate.specs.Passing.{Ended}
+use Rattle.edit_eliminate.specs.Passing.{EliminationEnded}
 use Rattle.calls_edit.proofs.Edits.{repliedWith, edit-accepted}
 use Rattle.call_eliminate.specs.declared.EliminateAnswer.{EliminateAnswer}
 use Rattle.call_eliminate.specs.Results.{eliminateResult}
@@ -45,10 +45,10 @@ refused ws call code r e told = (λ i. record { replied = reply (e .0 i) (e .1 i
 
 -- and the one that the run leaves
 pub run-ended : (ws after index seniors : List ℕ) (w : Weights) (t : Tolerance) (g : Progress) (r : EliminateAnswer) → unfit ws ≡ 0 → refusal (stateOf ws) (eliminate w t) ≡ 0
-    → r .code ≡ 0 → r .removed ≡ g .changed → r .examined ≡ g .examined → Ended (stateOf ws) after index seniors g (eliminated (rolesOf (stateOf ws)) w t (stateOf ws .standing))
+    → r .code ≡ 0 → r .removed ≡ g .changed → r .examined ≡ g .examined → EliminationEnded (stateOf ws) after index seniors g (eliminated (rolesOf (stateOf ws)) w t (stateOf ws .standing))
     → eliminateResult r after ≡ edit ws (eliminate w t)
 unfolding eliminateResult accepted runAt
 run-ended ws after index seniors w t g r z e ec er ee done =
     (λ i. record { replied = reply (ec i) (er i) (ee i); words = after })
     ∙ edit-accepted ws (eliminate w t) z e (runAt after g (eliminated (rolesOf (stateOf ws)) w t (stateOf ws .standing) .worklist)) after (sym (done .run))
-    (done .going .ready .afresh ∙ ap built (done .kin))
+    (done .in-step .ready .afresh ∙ ap built (done .same-crew))

@@ -12,8 +12,8 @@ use Rattle.model.specs.Refusals.{weightsRefusal}
 use Rattle.model.specs.Calls.{unfit, edit}
 use Rattle.rows.specs.Linked.{Ready}
 use Rattle.edit_trials.specs.declared.progress.Progress.{Progress}
-use Rattle.edit_trials.specs.Trying.{Kin, runAt}
-use Rattle.edit_trials.proofs.Runs.{kin-built}
+use Rattle.edit_trials.specs.Trying.{SameCrewList, runAt}
+use Rattle.edit_trials.proofs.Runs.{crew-built}
 use Rattle.calls_edit.proofs.Edits.{repliedWith, edit-accepted}
 use Rattle.call_review.specs.declared.ReviewAnswer.{ReviewAnswer}
 use Rattle.call_review.specs.Results.{reviewResult}
@@ -31,9 +31,9 @@ refused ws w code r e f = (λ i. record { replied = reply (e .0 i) (e .1 i) (e .
 
 -- the record that the passes leave
 pub given : (ws after index seniors : List ℕ) (w : Weights) (g : Progress) (r : ReviewAnswer) → unfit ws ≡ 0 → refusal (stateOf ws) (review w) ≡ 0
-    → Ready (stateOf after) after index seniors → Kin (stateOf ws) after → runAt after g 0 ≡ reviewed (rolesOf (stateOf ws)) w (stateOf ws .standing)
+    → Ready (stateOf after) after index seniors → SameCrewList (stateOf ws) after → runAt after g 0 ≡ reviewed (rolesOf (stateOf ws)) w (stateOf ws .standing)
     → (r .code ≡ 0) × (r .restored ≡ g .changed) × (r .examined ≡ g .examined) → reviewResult r after ≡ edit ws (review w)
 unfolding reviewResult accepted runAt
-given ws after index seniors w g r z e ready kin run er =
+given ws after index seniors w g r z e ready same-crew run er =
     (λ i. record { replied = reply (er .0 i) (er .1 i) (er .2 i); words = after })
-    ∙ edit-accepted ws (review w) z e (runAt after g 0) after (sym run) (kin-built (stateOf ws) after index seniors ready kin)
+    ∙ edit-accepted ws (review w) z e (runAt after g 0) after (sym run) (crew-built (stateOf ws) after index seniors ready same-crew)

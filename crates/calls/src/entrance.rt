@@ -7,6 +7,7 @@ ghost use Rattle.model.specs.Refusals.{lengthRefusal};
 ghost use Rattle.model.specs.Calls.{unfit};
 ghost use Rattle.indexes.specs.Index.{indexLength};
 ghost use Rattle.calls.specs.Entrance.{Judged, Entered};
+ghost use Rattle.tables.specs.Tables.{table128Length};
 use indexes::INDEX_LENGTH;
 use records::is_sound;
 use refusals::REFUSED_LENGTH;
@@ -27,7 +28,7 @@ pub fn length_refusal(rec: &[u64]) -> u64
 pub fn soundness_refusal(rec: &[u64], index: &mut [u64], seniors: &mut [u64]) -> u64
     requires { ⌜ length (now rec) ≡ recordLength ⌝ }
     requires { ⌜ length (now index) ≡ indexLength ⌝ }
-    requires { ⌜ length (now seniors) ≡ 256 ⌝ }
+    requires { ⌜ length (now seniors) ≡ table128Length ⌝ }
     requires { ⌜ ((i : ℕ) → getD (now seniors) i 0 ≡ 0) ⌝ }
     ensures { λ r. ⌜ Judged (now (rec .entry)) (now (index .exit)) (now (seniors .exit)) r ⌝ }
 {
@@ -40,7 +41,7 @@ pub fn soundness_refusal(rec: &[u64], index: &mut [u64], seniors: &mut [u64]) ->
 // Both, in their order.
 pub fn enter(rec: &[u64], index: &mut [u64], seniors: &mut [u64]) -> u64
     requires { ⌜ length (now index) ≡ indexLength ⌝ }
-    requires { ⌜ length (now seniors) ≡ 256 ⌝ }
+    requires { ⌜ length (now seniors) ≡ table128Length ⌝ }
     requires { ⌜ ((i : ℕ) → getD (now seniors) i 0 ≡ 0) ⌝ }
     ensures { λ r. ⌜ Entered (now (rec .entry)) (now (index .exit)) (now (seniors .exit)) r ⌝ }
 {

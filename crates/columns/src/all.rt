@@ -6,7 +6,7 @@ ghost use lib.ListN.{length, getD};
 ghost use Rattle.sets.specs.Sets.{has, collect};
 ghost use Rattle.sets.specs.Words.{value};
 ghost use Rattle.model.specs.Lists.{setAt};
-ghost use Rattle.tables.specs.Tables.{Filled};
+ghost use Rattle.tables.specs.Tables.{Filled, table128Length};
 ghost use Rattle.columns.specs.Shuffles.{Loaded};
 use crate::one::column;
 use crate::one::in_first_word;
@@ -16,7 +16,7 @@ use tables::store128;
 
 // The columns of a table of n sets: entry k holds the places whose set holds k. A few are gathered one by one, since a block has 64.
 pub fn fill_columns(table: &[u64], n: usize, c: usize, out: &mut [u64])
-    requires { ⌜ (n ≤ 128) × (2 * n ≤ length (now table)) × (length (now out) ≡ 256) × (c ≤ 128) ⌝ }
+    requires { ⌜ (n ≤ 128) × (2 * n ≤ length (now table)) × (length (now out) ≡ table128Length) × (c ≤ 128) ⌝ }
     ensures { λ r. ⌜ Filled 2 c (λ k. collect n (λ i. has (setAt 2 (now (table .entry)) (2 * i)) k)) (now (out .entry)) (now (out .exit)) ⌝ }
 {
     if c < 16 {
@@ -27,7 +27,7 @@ pub fn fill_columns(table: &[u64], n: usize, c: usize, out: &mut [u64])
 }
 
 fn fill_few_columns(table: &[u64], n: usize, c: usize, out: &mut [u64])
-    requires { ⌜ (n ≤ 128) × (2 * n ≤ length (now table)) × (length (now out) ≡ 256) × (c ≤ 128) ⌝ }
+    requires { ⌜ (n ≤ 128) × (2 * n ≤ length (now table)) × (length (now out) ≡ table128Length) × (c ≤ 128) ⌝ }
     ensures { λ r. ⌜ Filled 2 c (λ k. collect n (λ i. has (setAt 2 (now (table .entry)) (2 * i)) k)) (now (out .entry)) (now (out .exit)) ⌝ }
 {
     let mut k = 0;

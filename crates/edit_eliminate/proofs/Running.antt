@@ -28,12 +28,12 @@ use Rattle.rows.specs.Linked.{Ready}
 use Rattle.rows.proofs.Linking.{reindexed}
 use Rattle.quality.specs.declared.weights.Weights.{Weights}
 use Rattle.quality.specs.Numbers.{countsIn, weightsIn, toleranceIn, mostQuality}
-use Rattle.edit_trials.specs.Trying.{runAt, Exact, Kin}
-use Rattle.edit_trials.proofs.Runs.{roles-count, ready-few, kin-same, kin-trans, kin-roles}
+use Rattle.edit_trials.specs.Trying.{runAt, Exact, SameCrewList}
+use Rattle.edit_trials.proofs.Runs.{roles-count, ready-few, crew-same, crew-trans, crew-roles}
 use Rattle.edit_order.specs.Work.{IndexedFor, downStart, Prepared}
 use Rattle.edit_eliminate.specs.declared.turn.Terms.{Terms}
 use Rattle.edit_eliminate.specs.declared.turn.Turn.{Turn}
-use Rattle.edit_eliminate.specs.Passing.{mostExamined, takeUpBy, runIn, Underway, Reached, Ended}
+use Rattle.edit_eliminate.specs.Passing.{mostExamined, takeUpBy, runIn, Underway, RunReached, EliminationEnded}
 use Rattle.edit_eliminate.proofs.Turns.{up-examined}
 use Rattle.edit_eliminate.proofs.Taking.{stand-few}
 
@@ -52,9 +52,9 @@ module _ (ws index : List ℕ) (terms : Terms) where
   end = eliminated (rolesOf (stateOf ws)) (weightsIn (terms .weights)) (toleranceIn (terms .tolerance)) (stateOf ws .standing)
 
   -- the run that is held is the last one
-  ended : (mid seniors : List ℕ) (turn : Turn) → Underway mid index seniors turn → Kin (stateOf ws) mid → end ≡ runIn mid turn → Ended (stateOf ws) mid index seniors (turn .progress) end
+  ended : (mid seniors : List ℕ) (turn : Turn) → Underway mid index seniors turn → SameCrewList (stateOf ws) mid → end ≡ runIn mid turn → EliminationEnded (stateOf ws) mid index seniors (turn .progress) end
   unfolding runIn runAt
-  ended mid seniors turn u kin e = record { going = u .going; kin = kin; run = rw e refl }
+  ended mid seniors turn u same-crew e = record { in-step = u .in-step; same-crew = same-crew; run = rw e refl }
 
   -- all passes are still to come
   begun : (turn : Turn) → runIn ws turn ≡ start → end ≡ passes ρ (takeUpBy ρ terms) (suc (candidateCount ρ)) (runIn ws turn)
@@ -62,33 +62,33 @@ module _ (ws index : List ℕ) (terms : Terms) where
   begun turn e = ap (passes ρ (takeUpBy ρ terms) (suc (candidateCount ρ))) (sym e)
 
   -- where no role is strikable, it ends as it begins
-  pub ended-at-once : (seniors : List ℕ) (turn : Turn) → Reached (stateOf ws) ws index seniors turn start → set128 (turn .worklist) ≡ 0
-      → Ended (stateOf ws) ws index seniors (turn .progress) end
+  pub ended-at-once : (seniors : List ℕ) (turn : Turn) → RunReached (stateOf ws) ws index seniors turn start → set128 (turn .worklist) ≡ 0
+      → EliminationEnded (stateOf ws) ws index seniors (turn .progress) end
   unfolding runIn runAt
   ended-at-once seniors turn from none =
-      ended ws seniors turn (from .underway) (from .kin) (begun turn (from .run) ∙ passes-empty ρ (takeUpBy ρ terms) (candidateCount ρ) (runIn ws turn) none)
+      ended ws seniors turn (from .underway) (from .same-crew) (begun turn (from .run) ∙ passes-empty ρ (takeUpBy ρ terms) (candidateCount ρ) (runIn ws turn) none)
 
   -- ---- the passes: mid, its work and the turn are what those before have left, and `left` more may follow
 
   pub record Running (mid work : List ℕ) (turn : Turn) (counted left : ℕ) : Type 0 where
     pub underway : Underway mid index (take downStart work) turn
-    pub kin : Kin (stateOf ws) mid
+    pub same-crew : SameCrewList (stateOf ws) mid
     pub prepared : Prepared (rolesOf (stateOf mid)) work
     pub counts : counted ≡ strikables (rolesOf (stateOf mid)) (stateOf mid .standing)
     pub room : turn .progress .examined + 128 * left ≤ mostExamined
     pub rest : end ≡ passes ρ (takeUpBy ρ terms) left (runIn mid turn)
 
-  pub running-start : (work : List ℕ) (turn : Turn) (left : ℕ) → Reached (stateOf ws) ws index (take downStart work) turn start → Prepared (rolesOf (stateOf ws)) work
+  pub running-start : (work : List ℕ) (turn : Turn) (left : ℕ) → RunReached (stateOf ws) ws index (take downStart work) turn start → Prepared (rolesOf (stateOf ws)) work
       → left ≡ getD ws 2 0 + 1 → Running ws work turn (set128 (turn .worklist)) left
   unfolding runIn runAt begin
   running-start work turn left from prepared el =
-      let ready = from .underway .going .ready in
+      let ready = from .underway .in-step .ready in
       let few = ready-few ws index (take downStart work) ready in
       let n : left ≡ suc (candidateCount ρ) = el ∙ add-one (getD ws 2 0) ∙ ap suc (sym (roles-count ws index (take downStart work) ready)) in
       let none : turn .progress .examined ≡ 0 = ap (λ (x : Run). x .examined) (from .run) in
       record {
         underway = from .underway;
-        kin = from .kin;
+        same-crew = from .same-crew;
         prepared = prepared;
         counts = ap (λ (x : Run). x .worklist) (from .run);
         room = omega arith;
@@ -96,46 +96,46 @@ module _ (ws index : List ℕ) (terms : Terms) where
       }
 
   module _ (mid work : List ℕ) (turn : Turn) (counted left : ℕ) (p : Running mid work turn counted left) where
-    pub running-out : left ≡ 0 → Ended (stateOf ws) mid index (take downStart work) (turn .progress) end
+    pub running-out : left ≡ 0 → EliminationEnded (stateOf ws) mid index (take downStart work) (turn .progress) end
     unfolding passes
     running-out e =
-        ended mid (take downStart work) turn (p .underway) (p .kin) (p .rest ∙ ap (λ (n : ℕ). passes ρ (takeUpBy ρ terms) n (runIn mid turn)) e)
+        ended mid (take downStart work) turn (p .underway) (p .same-crew) (p .rest ∙ ap (λ (n : ℕ). passes ρ (takeUpBy ρ terms) n (runIn mid turn)) e)
 
     module _ (some : 0 < left) where
       one-more : end ≡ passes ρ (takeUpBy ρ terms) (suc (left - 1)) (runIn mid turn)
       one-more = p .rest ∙ ap (λ (n : ℕ). passes ρ (takeUpBy ρ terms) n (runIn mid turn)) (let e : left ≡ suc (left - 1) = omega arith in e)
 
-      pub running-empty : set128 (turn .worklist) ≡ 0 → Ended (stateOf ws) mid index (take downStart work) (turn .progress) end
+      pub running-empty : set128 (turn .worklist) ≡ 0 → EliminationEnded (stateOf ws) mid index (take downStart work) (turn .progress) end
       unfolding runIn runAt
       running-empty e =
-          ended mid (take downStart work) turn (p .underway) (p .kin) (one-more ∙ passes-empty ρ (takeUpBy ρ terms) (left - 1) (runIn mid turn) e)
+          ended mid (take downStart work) turn (p .underway) (p .same-crew) (one-more ∙ passes-empty ρ (takeUpBy ρ terms) (left - 1) (runIn mid turn) e)
 
       module _ (listed : set128 (turn .worklist) ≢ 0) (after work' : List ℕ) (r : Turn)
-          (done : Reached (stateOf mid) after index (take downStart work') r (pass (rolesOf (stateOf mid)) (takeUpBy (rolesOf (stateOf mid)) terms) (runIn mid turn))) where
+          (done : RunReached (stateOf mid) after index (take downStart work') r (pass (rolesOf (stateOf mid)) (takeUpBy (rolesOf (stateOf mid)) terms) (runIn mid turn))) where
         next-run : runIn after r ≡ pass (rolesOf (stateOf ws)) (takeUpBy (rolesOf (stateOf ws)) terms) (runIn mid turn)
-        next-run = rw (kin-roles (stateOf ws) mid (p .kin)) at (done .run)
+        next-run = rw (crew-roles (stateOf ws) mid (p .same-crew)) at (done .run)
 
-        kin-after : Kin (stateOf ws) after
-        kin-after = kin-trans (stateOf ws) mid after (p .kin) (done .kin)
+        crew-after : SameCrewList (stateOf ws) after
+        crew-after = crew-trans (stateOf ws) mid after (p .same-crew) (done .same-crew)
 
-        pub running-last : r .progress .changed ≡ turn .progress .changed → Ended (stateOf ws) after index (take downStart work') (r .progress) end
+        pub running-last : r .progress .changed ≡ turn .progress .changed → EliminationEnded (stateOf ws) after index (take downStart work') (r .progress) end
         unfolding runIn runAt
         running-last e =
-            ended after (take downStart work') r (done .underway) kin-after
+            ended after (take downStart work') r (done .underway) crew-after
             (one-more ∙ passes-last ρ (takeUpBy ρ terms) (left - 1) (runIn mid turn) listed (ap (λ (x : Run). x .changed) (sym next-run) ∙ e) ∙ sym next-run)
 
         pub running-more : r .progress .changed ≢ turn .progress .changed → Prepared (rolesOf (stateOf after)) work' → (counted' : ℕ) → Found after index counted'
             → Running after work' r counted' (left - 1)
         unfolding runIn runAt
         running-more d prepared counted' found =
-            let few = stand-few mid index (take downStart work) (set128 (turn .worklist)) (p .underway .going .ready) (p .underway .listed) in
+            let few = stand-few mid index (take downStart work) (set128 (turn .worklist)) (p .underway .in-step .ready) (p .underway .listed) in
             let examined : r .progress .examined ≡ turn .progress .examined + ones (set128 (turn .worklist)) =
             ap (λ (x : Run). x .examined) next-run ∙ pass-examined ρ (takeUpBy ρ terms) (up-examined ρ terms) (runIn mid turn) in
             let room = p .room in
-            let ready = done .underway .going .ready in
+            let ready = done .underway .in-step .ready in
             record {
               underway = done .underway;
-              kin = kin-after;
+              same-crew = crew-after;
               prepared = prepared;
               counts = found (stateOf after) (ready .limits) (ready .afresh) (ready .indexed) (done .underway .holders);
               room = omega arith;
@@ -160,7 +160,7 @@ module _ (ws index seniors : List ℕ) (ready : Ready (stateOf ws) ws index seni
     pub first-turn : (w : Weights) (turn : Turn) → Exact ws (turn .progress .counts)
         → turn .progress .quality ≡ model.weigh (weightsIn w) (countsIn (turn .progress .counts)) → turn .progress .quality ≤ mostQuality
         → turn .progress .changed ≡ 0 → turn .progress .examined ≡ 0 → Found ws index' (set128 (turn .worklist))
-        → Reached (stateOf ws) ws index' seniors turn (begin (rolesOf (stateOf ws)) (weightsIn w) (strikables (rolesOf (stateOf ws)) (stateOf ws .standing)) (stateOf ws .standing))
+        → RunReached (stateOf ws) ws index' seniors turn (begin (rolesOf (stateOf ws)) (weightsIn w) (strikables (rolesOf (stateOf ws)) (stateOf ws .standing)) (stateOf ws .standing))
     unfolding runIn runAt begin model.quality
     first-turn w turn exact eq small ec ee found =
         let ρ = rolesOf (stateOf ws) in
@@ -169,13 +169,13 @@ module _ (ws index seniors : List ℕ) (ready : Ready (stateOf ws) ws index seni
         let reference = eq ∙ ap (model.weigh (weightsIn w)) exact in
         record {
           underway = record {
-            going = record { ready = reindexed (stateOf ws) ws index index' seniors ready indexed; exact = exact };
+            in-step = record { ready = reindexed (stateOf ws) ws index index' seniors ready indexed; exact = exact };
             holders = held;
             listed = rw listed (λ i h. strikable-stands ρ R i (strikables-iff ρ R i .0 h .1));
             fewer = omega arith;
             quality-small = small;
           };
-          kin = kin-same ws;
+          same-crew = crew-same ws;
           run = λ i. record { standing = R; worklist = listed i; reference = reference i; changed = ec i; examined = ee i };
         }
 

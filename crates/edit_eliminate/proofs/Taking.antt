@@ -22,14 +22,14 @@ use Rattle.model.specs.State.{State, rolesOf}
 use Rattle.stores.specs.Stores.{putAt}
 use Rattle.stores.proofs.Stores.{part-stored}
 use Rattle.rows.specs.Linked.{Ready}
-use Rattle.edit_trials.specs.Trying.{runAt, Kin}
-use Rattle.edit_trials.proofs.Runs.{roles-count, ready-few, kin-same, kin-trans, kin-roles}
-use Rattle.edit_order.specs.Ranking.{Keyed, Next}
+use Rattle.edit_trials.specs.Trying.{runAt, SameCrewList}
+use Rattle.edit_trials.proofs.Runs.{roles-count, ready-few, crew-same, crew-trans, crew-roles}
+use Rattle.edit_order.specs.Ranking.{Keyed, NextRole}
 use Rattle.edit_order.specs.Work.{workLength, downStart, ranksStart, Prepared, PreparedFor}
 use Rattle.edit_order.proofs.Work.{take-unchanged, unchanged-take, prepared-same, seniors-prepared, seniors-ranks}
 use Rattle.edit_eliminate.specs.declared.turn.Terms.{Terms}
 use Rattle.edit_eliminate.specs.declared.turn.Turn.{Turn}
-use Rattle.edit_eliminate.specs.Passing.{mostExamined, takeUpBy, runIn, Stand, Underway, Reached, Ordered}
+use Rattle.edit_eliminate.specs.Passing.{mostExamined, takeUpBy, runIn, Stand, Underway, RunReached, ByRedundancy}
 use Rattle.edit_eliminate.proofs.Turns.{up-examined, up-standing}
 
 -- ---- what stands is below c, and at most 128 roles
@@ -55,7 +55,7 @@ module _ (ws index : List ℕ) (terms : Terms) (at : Turn) where
 
   pub record Taking (mid beside : List ℕ) (turn : Turn) (todo top : ℕ) : Type 0 where
     pub underway : Underway mid index (take downStart beside) turn
-    pub kin : Kin (stateOf ws) mid
+    pub same-crew : SameCrewList (stateOf ws) mid
     pub prepared : Prepared (rolesOf (stateOf mid)) beside
     pub standing : Stand todo (stateOf mid .standing)
     pub keyed : Keyed top (take 258 (drop ranksStart beside)) todo key
@@ -64,13 +64,13 @@ module _ (ws index : List ℕ) (terms : Terms) (at : Turn) where
     pub run : pass ρ (takeUpBy ρ terms) (runIn ws at) ≡ takeUpAll ρ (takeUpBy ρ terms) key (ones todo) todo (runIn mid turn)
 
   pub taking-start : (work : List ℕ) (top : ℕ) → top ≡ getD ws 2 0 → Underway ws index (take downStart work) at → Prepared (rolesOf (stateOf ws)) work
-      → Ordered ws work (set128 (at .worklist)) → Taking ws work at (set128 (at .worklist)) top
+      → ByRedundancy ws work (set128 (at .worklist)) → Taking ws work at (set128 (at .worklist)) top
   unfolding pass runIn runAt
   taking-start work top e u prepared ordered =
-      let ready = u .going .ready in
+      let ready = u .in-step .ready in
       record {
         underway = u;
-        kin = kin-same ws;
+        same-crew = crew-same ws;
         prepared = prepared;
         standing = u .listed;
         keyed = rw (e ∙ sym (roles-count ws index (take downStart work) ready)) ordered;
@@ -85,15 +85,15 @@ module _ (ws index : List ℕ) (terms : Terms) (at : Turn) where
         → turn .progress .examined < mostExamined
     taking-bound seniors k here u room =
         let a = ones-without todo k here in
-        let b = stand-few ws index seniors (set128 (at .worklist)) (u .going .ready) (u .listed) in
+        let b = stand-few ws index seniors (set128 (at .worklist)) (u .in-step .ready) (u .listed) in
         let e = p .examined in
         omega arith
 
-    module _ (k top' : ℕ) (next : Next (take 258 (drop ranksStart beside)) todo top k top') (after seniors beside' : List ℕ) (r : Turn) (todo' : ℕ)
-        (done : Reached (stateOf mid) after index seniors r (takeUpBy (rolesOf (stateOf mid)) terms k (runIn mid turn)))
+    module _ (k top' : ℕ) (next : NextRole (take 258 (drop ranksStart beside)) todo top k top') (after seniors beside' : List ℕ) (r : Turn) (todo' : ℕ)
+        (done : RunReached (stateOf mid) after index seniors r (takeUpBy (rolesOf (stateOf mid)) terms k (runIn mid turn)))
         (eb : beside' ≡ putAt beside 0 seniors) (et : todo' ≡ todo ∖ single k) where
       run-next : runIn after r ≡ takeUpBy (rolesOf (stateOf ws)) terms k (runIn mid turn)
-      run-next = rw (kin-roles (stateOf ws) mid (p .kin)) at (done .run)
+      run-next = rw (crew-roles (stateOf ws) mid (p .same-crew)) at (done .run)
 
       fewer : suc (ones todo') ≡ ones todo
       fewer = rw et (ones-without todo k (next .there))
@@ -104,7 +104,7 @@ module _ (ws index : List ℕ) (terms : Terms) (at : Turn) where
       first : k ≡ foremost (candidateCount (rolesOf (stateOf ws))) key todo
       first =
           next .first (candidateCount ρ) key
-          (rw (ap candidateCount (kin-roles (stateOf ws) mid (p .kin))) at (stand-below mid index (take downStart beside) todo (p .underway .going .ready) (p .standing)))
+          (rw (ap candidateCount (crew-roles (stateOf ws) mid (p .same-crew))) at (stand-below mid index (take downStart beside) todo (p .underway .in-step .ready) (p .standing)))
           (p .keyed)
 
       all-next : takeUpAll ρ (takeUpBy ρ terms) key (ones todo) todo (runIn mid turn) ≡ takeUpAll ρ (takeUpBy ρ terms) key (ones todo') todo' (runIn after r)
@@ -118,7 +118,7 @@ module _ (ws index : List ℕ) (terms : Terms) (at : Turn) where
       pub taking-more : Taking after beside' r todo' top'
       unfolding runIn runAt
       taking-more =
-          let size = done .underway .going .ready .linked .size in
+          let size = done .underway .in-step .ready .linked .size in
           let whole = p .prepared .reach .size in
           let own : take downStart beside' ≡ seniors = rw eb (part-stored beside 0 seniors downStart size (omega arith)) in
           let ranks : take 258 (drop ranksStart beside') ≡ take 258 (drop ranksStart beside) = rw eb (seniors-ranks beside seniors whole size) in
@@ -128,8 +128,8 @@ module _ (ws index : List ℕ) (terms : Terms) (at : Turn) where
           let f = fewer in
           record {
             underway = rw own (done .underway);
-            kin = kin-trans (stateOf ws) mid after (p .kin) (done .kin);
-            prepared = rw (eb, kin-roles (stateOf mid) after (done .kin)) (seniors-prepared beside seniors whole size (rolesOf (stateOf mid)) (p .prepared));
+            same-crew = crew-trans (stateOf ws) mid after (p .same-crew) (done .same-crew);
+            prepared = rw (eb, crew-roles (stateOf mid) after (done .same-crew)) (seniors-prepared beside seniors whole size (rolesOf (stateOf mid)) (p .prepared));
             standing = λ i h.
                 let a = ∖-iff todo (single k) i .0 (rw et at h) in
                 rw now-standing (up-standing ρ terms k (runIn mid turn) i (p .standing i (a .0)) (λ e. a .1 (single-iff k i .1 (sym e))));
@@ -140,29 +140,29 @@ module _ (ws index : List ℕ) (terms : Terms) (at : Turn) where
           }
 
     pub taking-all : todo ≡ 0
-        → Reached (stateOf ws) mid index (take downStart beside) turn (pass (rolesOf (stateOf ws)) (takeUpBy (rolesOf (stateOf ws)) terms) (runIn ws at))
+        → RunReached (stateOf ws) mid index (take downStart beside) turn (pass (rolesOf (stateOf ws)) (takeUpBy (rolesOf (stateOf ws)) terms) (runIn ws at))
         × Prepared (rolesOf (stateOf mid)) beside
     unfolding takeUpAll
     taking-all e =
         let none : ones todo ≡ 0 = ap ones e ∙ ones-zero in
         let run = p .run ∙ ap (λ (n : ℕ). takeUpAll ρ (takeUpBy ρ terms) key n todo (runIn mid turn)) none in
-        (record { underway = p .underway; kin = p .kin; run = sym run }, p .prepared)
+        (record { underway = p .underway; same-crew = p .same-crew; run = sym run }, p .prepared)
 
 -- ---- the ranks of a pass over the roles s
 
 module _ (ws index work : List ℕ) (turn : Turn) (c s : ℕ) (u : Underway ws index (take downStart work) turn) (prepared : Prepared (rolesOf (stateOf ws)) work)
     (stand : Stand s (stateOf ws .standing)) (e : c ≡ getD ws 2 0) where
   count : candidateCount (rolesOf (stateOf ws)) ≡ c
-  count = roles-count ws index (take downStart work) (u .going .ready) ∙ sym e
+  count = roles-count ws index (take downStart work) (u .in-step .ready) ∙ sym e
 
   pub ranks-asked : PreparedFor c work × (s < 2 ^ c)
-  ranks-asked = ((rolesOf (stateOf ws), count, prepared), rw count at (stand-below ws index (take downStart work) s (u .going .ready) stand))
+  ranks-asked = ((rolesOf (stateOf ws), count, prepared), rw count at (stand-below ws index (take downStart work) s (u .in-step .ready) stand))
 
   -- filled, they are the order of the pass, and the rest of the work is as it was
   pub ranks-filled : (work' : List ℕ) (counted : ℕ) → length work' ≡ workLength → counted ≡ strikables (rolesOf (stateOf ws)) (stateOf ws .standing)
       → take ranksStart work' ≡ take ranksStart work
       → ((st : State) → Limits st → candidateCount (rolesOf st) ≡ c → Prepared (rolesOf st) work → Keyed c (take 258 (drop ranksStart work')) s (redundancy (rolesOf st) counted))
-      → Underway ws index (take downStart work') turn × Prepared (rolesOf (stateOf ws)) work' × Ordered ws work' s
+      → Underway ws index (take downStart work') turn × Prepared (rolesOf (stateOf ws)) work' × ByRedundancy ws work' s
   ranks-filled work' counted size ec same filled =
       let whole = prepared .reach .size in
       let kept = take-unchanged ranksStart work work' same in
@@ -170,5 +170,5 @@ module _ (ws index work : List ℕ) (turn : Turn) (c s : ℕ) (u : Underway ws i
       unchanged-take downStart work work' (size ∙ sym whole) (omega arith) (λ i from to. kept i from (omega arith)) in (
         rw seniors u,
         prepared-same (rolesOf (stateOf ws)) work work' size (λ i from to. kept i (omega arith) to) prepared,
-        rw (count, sym ec) (filled (stateOf ws) (u .going .ready .limits) count prepared),
+        rw (count, sym ec) (filled (stateOf ws) (u .in-step .ready .limits) count prepared),
       )

@@ -32,11 +32,11 @@ use Rattle.quality.specs.declared.weights.Tolerance.{Tolerance}
 use Rattle.quality.specs.Numbers.{countsIn, weightsIn, toleranceIn, mostQuality}
 use Rattle.edit_trials.specs.declared.progress.Progress.{Progress}
 use Rattle.edit_trials.specs.declared.trial.Trial.{Trial}
-use Rattle.edit_trials.specs.Trying.{runAt, Kin, Going, Tried}
-use Rattle.edit_trials.proofs.Runs.{kin-same, kin-now, kin-roles, strike-below, trial-state, trial-going}
+use Rattle.edit_trials.specs.Trying.{runAt, SameCrewList, InStep, Tried}
+use Rattle.edit_trials.proofs.Runs.{crew-same, crew-now, crew-roles, strike-below, trial-state, trial-in-step}
 use Rattle.edit_eliminate.specs.declared.turn.Terms.{Terms}
 use Rattle.edit_eliminate.specs.declared.turn.Turn.{Turn}
-use Rattle.edit_eliminate.specs.Passing.{takeUpBy, runIn, Stand, Underway, Reached}
+use Rattle.edit_eliminate.specs.Passing.{takeUpBy, runIn, Stand, Underway, RunReached}
 
 -- ---- products that can be formed
 
@@ -108,31 +108,31 @@ module _ (ws index seniors : List ℕ) (terms : Terms) (turn : Turn) (k : ℕ) (
   abbrev next : Run
   next = takeUpBy (rolesOf (stateOf ws)) terms k (runIn ws turn)
 
-  reached : (after seniors' : List ℕ) (r : Turn) → Going after index seniors' (r .progress) → Kin (stateOf ws) after → r .progress .quality ≤ mostQuality
+  reached : (after seniors' : List ℕ) (r : Turn) → InStep after index seniors' (r .progress) → SameCrewList (stateOf ws) after → r .progress .quality ≤ mostQuality
       → runIn after r ≡ next
-      → Reached (stateOf ws) after index seniors' r next
+      → RunReached (stateOf ws) after index seniors' r next
   unfolding runIn runAt
-  reached after seniors' r going kin small run =
+  reached after seniors' r in-step same-crew small run =
       let changed : r .progress .changed ≤ suc (turn .progress .changed) = rw (ap (λ (x : Run). x .changed) run) (up-changed ρ terms k (runIn ws turn)) in
       let examined : r .progress .examined ≡ suc (turn .progress .examined) = ap (λ (x : Run). x .examined) run ∙ up-examined ρ terms k (runIn ws turn) in
       let fewer = u .fewer in
       record {
         underway = record {
-          going = going;
-          holders = rw (kin-roles (stateOf ws) after kin) (u .holders);
+          in-step = in-step;
+          holders = rw (crew-roles (stateOf ws) after same-crew) (u .holders);
           listed = rw (ap (λ (x : Run). x .worklist) run, ap (λ (x : Run). x .standing) run) (up-listed ρ terms k (runIn ws turn) (u .listed));
           fewer = omega arith;
           quality-small = small;
         };
-        kin = kin;
+        same-crew = same-crew;
         run = run;
       }
 
   -- as the record was
   stayed : (r : Turn) → r .progress ≡ unstruck (turn .progress) → runIn ws r ≡ next
-      → Reached (stateOf ws) ws index seniors r next
+      → RunReached (stateOf ws) ws index seniors r next
   stayed r e run =
-      reached ws seniors r (record { ready = u .going .ready; exact = rw e (u .going .exact) }) (kin-same ws) (rw e (u .quality-small)) run
+      reached ws seniors r (record { ready = u .in-step .ready; exact = rw e (u .in-step .exact) }) (crew-same ws) (rw e (u .quality-small)) run
 
   -- what the code asks of the record
   module _ (t : Bool) (stands : So (has (stateOf ws .standing) k))
@@ -140,13 +140,13 @@ module _ (ws index seniors : List ℕ) (terms : Terms) (turn : Turn) (k : ℕ) (
     asked : t ≡ strikable (rolesOf (stateOf ws)) (stateOf ws .standing) k
     unfolding rolesOf
     asked =
-        let ready = u .going .ready in
+        let ready = u .in-step .ready in
         told (stateOf ws) (ready .limits) (ready .afresh) (ready .indexed)
         (λ p h. u .holders p (item-below (ρ .permissions) (directPermissions ρ R k) p (directPermissions-lt ρ R k) h)) stands
 
     -- the role is not strikable
     pub turn-dropped : t ≡ false → (r : Turn) → r .progress ≡ unstruck (turn .progress) → set128 (r .worklist) ≡ set128 (turn .worklist) ∖ single k
-        → Reached (stateOf ws) ws index seniors r next
+        → RunReached (stateOf ws) ws index seniors r next
     unfolding runIn runAt takeUpBy takeUp afterDrop
     turn-dropped f r e el =
         let examined : r .progress .examined ≡ suc (turn .progress .examined) = ap (λ (x : Progress). x .examined) e ∙ add-one (turn .progress .examined) in
@@ -169,7 +169,7 @@ module _ (ws index seniors : List ℕ) (terms : Terms) (turn : Turn) (k : ℕ) (
           ∙ rw (el, sym quality-then) refl
 
       pub turn-stayed : less ≡ false → (r : Turn) → r .progress ≡ unstruck (turn .progress) → set128 (r .worklist) ≡ set128 (turn .worklist)
-          → Reached (stateOf ws) ws index seniors r next
+          → RunReached (stateOf ws) ws index seniors r next
       unfolding runIn runAt afterStay
       turn-stayed f r e ew =
           let examined : r .progress .examined ≡ suc (turn .progress .examined) = ap (λ (x : Progress). x .examined) e ∙ add-one (turn .progress .examined) in
@@ -178,16 +178,16 @@ module _ (ws index seniors : List ℕ) (terms : Terms) (turn : Turn) (k : ℕ) (
 
       pub turn-struck : So less → q ≤ mostQuality → (after seniors' : List ℕ) → Ready (standingNow (stateOf ws) (stateOf ws .standing ∖ single k)) after index seniors' → (r : Turn)
           → r .progress ≡ struck (turn .progress) (trial .counts) q → set128 (r .worklist) ≡ set128 (turn .worklist) ∖ single k
-          → Reached (stateOf ws) after index seniors' r next
+          → RunReached (stateOf ws) after index seniors' r next
       unfolding runIn runAt afterStrike
       turn-struck within small after seniors' made r e ew =
-          let ready = u .going .ready in
+          let ready = u .in-step .ready in
           let S = R ∖ single k in
           let now-state = trial-state ws index seniors ready S (strike-below ws index seniors ready k) (trial .counts) (weighed .counts) after seniors' made in
           let changed : r .progress .changed ≡ suc (turn .progress .changed) = ap (λ (x : Progress). x .changed) e ∙ add-one (turn .progress .changed) in
           let examined : r .progress .examined ≡ suc (turn .progress .examined) = ap (λ (x : Progress). x .examined) e ∙ add-one (turn .progress .examined) in
           reached after seniors' r
-          (trial-going ws index seniors ready S (strike-below ws index seniors ready k) (trial .counts) (weighed .counts) after seniors' made (r .progress) (λ i. e i .counts))
-          (kin-now ws after S now-state) (rw e small)
+          (trial-in-step ws index seniors ready S (strike-below ws index seniors ready k) (trial .counts) (weighed .counts) after seniors' made (r .progress) (λ i. e i .counts))
+          (crew-now ws after S now-state) (rw e small)
           (held after r (ap (λ (st : State). st .standing) now-state ∙ standing-now (stateOf ws) S) ew (λ i. e i .quality) changed examined
           ∙ sym (decided ∙ if-true less _ _ within))

@@ -16,9 +16,9 @@ use Rattle.model.specs.State.{State, rolesOf}
 use Rattle.indexes.specs.Index.{AllHolders}
 use Rattle.quality.specs.Numbers.{weightsIn, toleranceIn, mostQuality}
 use Rattle.edit_trials.specs.declared.progress.Progress.{Progress}
-use Rattle.edit_trials.specs.Trying.{runAt, Kin, Going}
+use Rattle.edit_trials.specs.Trying.{runAt, SameCrewList, InStep}
 use Rattle.edit_order.specs.Ranking.{Keyed}
-use Rattle.edit_order.specs.Work.{ranksStart}
+use Rattle.edit_order.specs.Work.{ranksStart, ranksLength}
 use Rattle.edit_eliminate.specs.declared.turn.Terms.{Terms}
 use Rattle.edit_eliminate.specs.declared.turn.Turn.{Turn}
 
@@ -45,26 +45,26 @@ Stand s R = (i : ℕ) → So (has s i) → So (has R i)
 
 -- a record with its whole index, its immediate seniors and its counts, at some turn of an elimination
 pub record Underway (ws index seniors : List ℕ) (turn : Turn) : Type 0 where
-  pub going : Going ws index seniors (turn .progress)
+  pub in-step : InStep ws index seniors (turn .progress)
   pub holders : AllHolders (rolesOf (stateOf ws)) index
   pub listed : Stand (set128 (turn .worklist)) (stateOf ws .standing)
   pub fewer : turn .progress .changed ≤ turn .progress .examined
   pub quality-small : turn .progress .quality ≤ mostQuality
 
 -- from a record with the state st the machine has come to the run r, and a record of the same crew list and a turn hold it
-pub record Reached (st : State) (ws index seniors : List ℕ) (turn : Turn) (r : Run) : Type 0 where
+pub record RunReached (st : State) (ws index seniors : List ℕ) (turn : Turn) (r : Run) : Type 0 where
   pub underway : Underway ws index seniors turn
-  pub kin : Kin st ws
+  pub same-crew : SameCrewList st ws
   pub run : runIn ws turn ≡ r
 
 -- the same at the end, whatever is left of the worklist
-pub record Ended (st : State) (ws index seniors : List ℕ) (g : Progress) (r : Run) : Type 0 where
-  pub going : Going ws index seniors g
-  pub kin : Kin st ws
+pub record EliminationEnded (st : State) (ws index seniors : List ℕ) (g : Progress) (r : Run) : Type 0 where
+  pub in-step : InStep ws index seniors g
+  pub same-crew : SameCrewList st ws
   pub run : runAt ws g (r .worklist) ≡ r
 
 -- the work has these roles by their redundancies in the record, as a pass orders its worklist
-abbrev pub Ordered : List ℕ → List ℕ → ℕ → Type 0
-Ordered ws work worklist =
-    Keyed (candidateCount (rolesOf (stateOf ws))) (take 258 (drop ranksStart work)) worklist
+abbrev pub ByRedundancy : List ℕ → List ℕ → ℕ → Type 0
+ByRedundancy ws work worklist =
+    Keyed (candidateCount (rolesOf (stateOf ws))) (take ranksLength (drop ranksStart work)) worklist
     (redundancy (rolesOf (stateOf ws)) (strikables (rolesOf (stateOf ws)) (stateOf ws .standing)))

@@ -10,7 +10,7 @@ ghost use Rattle.rows.specs.Linked.{Ready};
 ghost use Rattle.quality.specs.Numbers.{weightsIn, toleranceIn};
 ghost use Rattle.edit_trials.specs.Trying.{Exact};
 ghost use Rattle.edit_order.specs.Work.{workLength, downStart, Prepared};
-ghost use Rattle.edit_eliminate.specs.Passing.{Allowed, Reached, Ended};
+ghost use Rattle.edit_eliminate.specs.Passing.{Allowed, RunReached, EliminationEnded};
 use crate::pass::pass;
 use crate::turn::Terms;
 use crate::turn::Turn;
@@ -31,13 +31,13 @@ fn run_passes(
     terms: Terms,
     turn: Turn,
 ) -> Progress
-    requires { ⌜ Reached (stateOf (now rec)) (now rec) (now index) (take downStart (now work)) turn (begin (rolesOf (stateOf (now rec))) (weightsIn (terms .weights)) (strikables (rolesOf (stateOf (now rec))) (stateOf (now rec) .standing)) (stateOf (now rec) .standing)) ⌝ }
+    requires { ⌜ RunReached (stateOf (now rec)) (now rec) (now index) (take downStart (now work)) turn (begin (rolesOf (stateOf (now rec))) (weightsIn (terms .weights)) (strikables (rolesOf (stateOf (now rec))) (stateOf (now rec) .standing)) (stateOf (now rec) .standing)) ⌝ }
     requires { ⌜ Allowed terms ⌝ }
     requires { ⌜ Prepared (rolesOf (stateOf (now rec))) (now work) ⌝ }
     requires { ⌜ length (now rec) ≡ recordLength ⌝ }
     requires { ⌜ length (now index) ≡ indexLength ⌝ }
     requires { ⌜ length (now work) ≡ workLength ⌝ }
-    ensures { λ r. ⌜ Ended (stateOf (now (rec .entry))) (now (rec .exit)) (now (index .entry)) (take downStart (now (work .exit))) r (eliminated (rolesOf (stateOf (now (rec .entry)))) (weightsIn (terms .weights)) (toleranceIn (terms .tolerance)) (stateOf (now (rec .entry)) .standing)) ⌝ }
+    ensures { λ r. ⌜ EliminationEnded (stateOf (now (rec .entry))) (now (rec .exit)) (now (index .entry)) (take downStart (now (work .exit))) r (eliminated (rolesOf (stateOf (now (rec .entry)))) (weightsIn (terms .weights)) (toleranceIn (terms .tolerance)) (stateOf (now (rec .entry)) .standing)) ⌝ }
 {
     let mut left = rec[2] as usize + 1;
     let mut run = turn;
@@ -71,7 +71,7 @@ pub fn eliminate_all(
     requires { ⌜ length (now rec) ≡ recordLength ⌝ }
     requires { ⌜ length (now index) ≡ indexLength ⌝ }
     requires { ⌜ length (now work) ≡ workLength ⌝ }
-    ensures { λ r. ⌜ Ended (stateOf (now (rec .entry))) (now (rec .exit)) (now (index .exit)) (take downStart (now (work .exit))) r (eliminated (rolesOf (stateOf (now (rec .entry)))) (weightsIn (terms .weights)) (toleranceIn (terms .tolerance)) (stateOf (now (rec .entry)) .standing)) ⌝ }
+    ensures { λ r. ⌜ EliminationEnded (stateOf (now (rec .entry))) (now (rec .exit)) (now (index .exit)) (take downStart (now (work .exit))) r (eliminated (rolesOf (stateOf (now (rec .entry)))) (weightsIn (terms .weights)) (toleranceIn (terms .tolerance)) (stateOf (now (rec .entry)) .standing)) ⌝ }
 {
     let m = rec[1] as usize;
     let c = rec[2] as usize;

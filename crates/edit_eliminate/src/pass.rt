@@ -9,7 +9,7 @@ ghost use Rattle.model.specs.Record.{recordLength, stateOf};
 ghost use Rattle.model.specs.State.{rolesOf};
 ghost use Rattle.indexes.specs.Index.{indexLength};
 ghost use Rattle.edit_order.specs.Work.{workLength, downStart, Prepared};
-ghost use Rattle.edit_eliminate.specs.Passing.{mostExamined, Allowed, takeUpBy, runIn, Underway, Reached, Ordered};
+ghost use Rattle.edit_eliminate.specs.Passing.{mostExamined, Allowed, takeUpBy, runIn, Underway, RunReached, ByRedundancy};
 use crate::turn::Terms;
 use crate::turn::Turn;
 use crate::turn::take_up;
@@ -26,12 +26,12 @@ fn take_up_all(rec: &mut [u64], index: &[u64], work: &mut [u64], terms: Terms, t
     requires { ⌜ Underway (now rec) (now index) (take downStart (now work)) turn ⌝ }
     requires { ⌜ Allowed terms ⌝ }
     requires { ⌜ Prepared (rolesOf (stateOf (now rec))) (now work) ⌝ }
-    requires { ⌜ Ordered (now rec) (now work) (set128 (turn .worklist)) ⌝ }
+    requires { ⌜ ByRedundancy (now rec) (now work) (set128 (turn .worklist)) ⌝ }
     requires { ⌜ length (now rec) ≡ recordLength ⌝ }
     requires { ⌜ length (now index) ≡ indexLength ⌝ }
     requires { ⌜ length (now work) ≡ workLength ⌝ }
     requires { ⌜ turn .progress .examined + 128 ≤ mostExamined ⌝ }
-    ensures { λ r. ⌜ Reached (stateOf (now (rec .entry))) (now (rec .exit)) (now (index .entry)) (take downStart (now (work .exit))) r (pass (rolesOf (stateOf (now (rec .entry)))) (takeUpBy (rolesOf (stateOf (now (rec .entry)))) terms) (runIn (now (rec .entry)) turn)) ⌝ }
+    ensures { λ r. ⌜ RunReached (stateOf (now (rec .entry))) (now (rec .exit)) (now (index .entry)) (take downStart (now (work .exit))) r (pass (rolesOf (stateOf (now (rec .entry)))) (takeUpBy (rolesOf (stateOf (now (rec .entry)))) terms) (runIn (now (rec .entry)) turn)) ⌝ }
     ensures { λ r. ⌜ Prepared (rolesOf (stateOf (now (rec .exit)))) (now (work .exit)) ⌝ }
 {
     let mut run = turn;
@@ -64,7 +64,7 @@ pub fn pass(
     requires { ⌜ length (now index) ≡ indexLength ⌝ }
     requires { ⌜ length (now work) ≡ workLength ⌝ }
     requires { ⌜ turn .progress .examined + 128 ≤ mostExamined ⌝ }
-    ensures { λ r. ⌜ Reached (stateOf (now (rec .entry))) (now (rec .exit)) (now (index .entry)) (take downStart (now (work .exit))) r (pass (rolesOf (stateOf (now (rec .entry)))) (takeUpBy (rolesOf (stateOf (now (rec .entry)))) terms) (runIn (now (rec .entry)) turn)) ⌝ }
+    ensures { λ r. ⌜ RunReached (stateOf (now (rec .entry))) (now (rec .exit)) (now (index .entry)) (take downStart (now (work .exit))) r (pass (rolesOf (stateOf (now (rec .entry)))) (takeUpBy (rolesOf (stateOf (now (rec .entry)))) terms) (runIn (now (rec .entry)) turn)) ⌝ }
     ensures { λ r. ⌜ Prepared (rolesOf (stateOf (now (rec .exit)))) (now (work .exit)) ⌝ }
 {
     let c = rec[2] as usize;

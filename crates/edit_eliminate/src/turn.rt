@@ -10,7 +10,8 @@ ghost use Rattle.model.specs.Record.{recordLength, stateOf};
 ghost use Rattle.model.specs.State.{rolesOf};
 ghost use Rattle.indexes.specs.Index.{indexLength};
 ghost use Rattle.quality.specs.Numbers.{toleranceIn, mostQuality};
-ghost use Rattle.edit_eliminate.specs.Passing.{mostExamined, Allowed, takeUpBy, runIn, Underway, Reached};
+ghost use Rattle.edit_eliminate.specs.Passing.{mostExamined, Allowed, takeUpBy, runIn, Underway, RunReached};
+ghost use Rattle.tables.specs.Tables.{table128Length};
 use edit_rows::take_out_at;
 use edit_test::removable;
 use edit_trials::Progress;
@@ -57,10 +58,10 @@ pub fn take_up(
     requires { ⌜ So (has (stateOf (now rec) .standing) k) ⌝ }
     requires { ⌜ length (now rec) ≡ recordLength ⌝ }
     requires { ⌜ length (now index) ≡ indexLength ⌝ }
-    requires { ⌜ length (now seniors) ≡ 256 ⌝ }
+    requires { ⌜ length (now seniors) ≡ table128Length ⌝ }
     requires { ⌜ k < 128 ⌝ }
     requires { ⌜ turn .progress .examined < mostExamined ⌝ }
-    ensures { λ r. ⌜ Reached (stateOf (now (rec .entry))) (now (rec .exit)) (now (index .entry)) (now (seniors .exit)) r (takeUpBy (rolesOf (stateOf (now (rec .entry)))) terms k (runIn (now (rec .entry)) turn)) ⌝ }
+    ensures { λ r. ⌜ RunReached (stateOf (now (rec .entry))) (now (rec .exit)) (now (index .entry)) (now (seniors .exit)) r (takeUpBy (rolesOf (stateOf (now (rec .entry)))) terms k (runIn (now (rec .entry)) turn)) ⌝ }
 {
     let at = turn.progress;
     let worklist = turn.worklist;

@@ -28,14 +28,14 @@ pub record Gathered (st : State) (found rest : ℕ) : Type 0 where
   pub standing : (k : ℕ) → So (has rest k) → So (has (st .standing) k)
 
 -- the record is that of the state, and the index that of its roles
-pub record Told (st : State) (ws index : List ℕ) : Type 0 where
+pub record StateHeld (st : State) (ws index : List ℕ) : Type 0 where
   pub limits : Limits st
   pub record-built : ws ≡ built st
   pub indexed : Indexed (rolesOf st) index
   pub holding : AllHolders (rolesOf st) index
 
 abbrev pub Gathering : List ℕ → List ℕ → ℕ → ℕ → Type 0
-Gathering ws index found rest = (st : State) → Told st ws index → Gathered st found rest
+Gathering ws index found rest = (st : State) → StateHeld st ws index → Gathered st found rest
 
 pub gathering-start : (ws index : List ℕ) (found rest : ℕ) → found ≡ 0 → rest ≡ setAt 2 ws 4 → Gathering ws index found rest
 gathering-start ws index found rest ef er st told =

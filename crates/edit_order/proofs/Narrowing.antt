@@ -20,7 +20,7 @@ use Rattle.stores.specs.Stores.{putAt}
 use Rattle.stores.proofs.Stores.{length-putAt}
 use Rattle.tables.specs.Stores.{wordsOf}
 use Rattle.tables.proofs.Stores.{stored-back, stored-before}
-use Rattle.edit_order.specs.Work.{workLength, downStart, samplesStart, holdingStart, furtherStart, entry, HoldsAt, Unchanged, Reached, holding, further, Sampled, Among}
+use Rattle.edit_order.specs.Work.{workLength, downStart, samplesStart, holdingStart, furtherStart, entry, HoldsAt, Unchanged, UpAndDown, holding, further, Sampled, KnownSample}
 use Rattle.edit_order.proofs.Work.{unchanged-below, set-same, reached-same, sampled-same}
 use Rattle.edit_order.proofs.Walking.{dropped-fewer}
 
@@ -43,7 +43,7 @@ narrowing-all ws all i left rest inv e j =
       λ w. inv .exactly j .1 (w .0, λ k h out. subset-iff mine other .0 (w .1) k h),
     )
 
-module _ (ws : List ℕ) (all i left rest : ℕ) (a : Among ws all i) (inv : Narrowing ws all i left rest) (k : ℕ) (there : So (has rest k)) where
+module _ (ws : List ℕ) (all i left rest : ℕ) (a : KnownSample ws all i) (inv : Narrowing ws all i left rest) (k : ℕ) (there : So (has rest k)) where
   -- the user whose roles a sample has
   user : (j : ℕ) → j < a .count → (u : ℕ) × (entry ws samplesStart j ≡ rolesOfUser (a .whose) u)
   user j l = let w = a .samples .of-users .user-of j l in (w .0, a .samples .roles j l ∙ w .2)
@@ -97,25 +97,25 @@ module _ (ws : List ℕ) (all i left rest : ℕ) (a : Among ws all i) (inv : Nar
 
 -- ---- entry by entry
 
-pub record Filling (count : ℕ) (before ws : List ℕ) (n : ℕ) : Type 0 where
+pub record FurtherFilling (count : ℕ) (before ws : List ℕ) (n : ℕ) : Type 0 where
   pub size : length ws ≡ workLength
   pub some : n ≤ count
   pub kept : Unchanged 0 furtherStart before ws
   pub filled : HoldsAt furtherStart n (further count (entry before samplesStart)) ws
 
-pub filling-start : (count : ℕ) (ws : List ℕ) → length ws ≡ workLength → Filling count ws ws 0
+pub filling-start : (count : ℕ) (ws : List ℕ) → length ws ≡ workLength → FurtherFilling count ws ws 0
 filling-start count ws size =
     record { size = size; some = omega arith; kept = λ i from to. refl; filled = λ k l. absurd (let z : ⊥ = omega arith in z) }
 
-module _ (count : ℕ) (before ws : List ℕ) (n all : ℕ) (given : (ρ : Roles) × (found : ℕ → ℕ) × Reached ρ before × Sampled ρ count found before)
-    (inv : Filling count before ws n) (l : n < count) (ea : all ≡ collect 128 (λ j. ltb j count)) where
+module _ (count : ℕ) (before ws : List ℕ) (n all : ℕ) (given : (ρ : Roles) × (found : ℕ → ℕ) × UpAndDown ρ before × Sampled ρ count found before)
+    (inv : FurtherFilling count before ws n) (l : n < count) (ea : all ≡ collect 128 (λ j. ltb j count)) where
   everyone : (j : ℕ) → So (has all j) ↔ (j < count)
   everyone j = (
     λ t. ltb-iff j count .0 (collect-iff 128 (λ j. ltb j count) j .0 (rw ea at t) .1),
     λ b. let few = given .3 .few in rw ea (collect-iff 128 (λ j. ltb j count) j .1 (omega arith, ltb-iff j count .1 b)),
   )
 
-  pub filling-among : Among ws all n
+  pub filling-among : KnownSample ws all n
   filling-among =
       record {
         whose = given .0;
@@ -132,7 +132,7 @@ module _ (count : ℕ) (before ws : List ℕ) (n all : ℕ) (given : (ρ : Roles
 
   pub filling-more : (r : ℕ) → r < 2 ^ 128
       → ((j : ℕ) → So (has r j) ↔ (So (has all j) × So (subset (entry ws samplesStart n) (entry ws samplesStart j))))
-      → Filling count before (putAt ws (furtherStart + 2 * n) (wordsOf 2 r)) (n + 1)
+      → FurtherFilling count before (putAt ws (furtherStart + 2 * n) (wordsOf 2 r)) (n + 1)
   unfolding further
   filling-more r small tells =
       let size = inv .size in
@@ -158,6 +158,6 @@ module _ (count : ℕ) (before ws : List ℕ) (n all : ℕ) (given : (ρ : Roles
             (λ d. stored-before ws at 2 r (furtherStart + 2 * k) 2 (omega arith) ∙ inv .filled k (omega arith));
       }
 
-pub filling-all : (count : ℕ) (before ws : List ℕ) (n : ℕ) → Filling count before ws n → count ≤ n
+pub filling-all : (count : ℕ) (before ws : List ℕ) (n : ℕ) → FurtherFilling count before ws n → count ≤ n
     → Unchanged 0 furtherStart before ws × HoldsAt furtherStart count (further count (entry before samplesStart)) ws
 filling-all count before ws n inv l = (inv .kept, λ k b. inv .filled k (omega arith))

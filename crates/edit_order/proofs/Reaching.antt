@@ -17,10 +17,10 @@ use Rattle.model.specs.Lists.{setAt}
 use Rattle.model.specs.Hierarchy.{Roles, candidateCount}
 use Rattle.model.specs.Indexes.{lower, rolesOfPermission, downFrom, upFrom, firstHolders}
 use Rattle.model.proofs.Shortcuts.{rolesOfPermission-iff, downFrom-iff, upFrom-iff, firstHolder-iff, firstHolders-iff, down-lower}
-use Rattle.tables.specs.Tables.{Holds}
+use Rattle.tables.specs.Tables.{HoldsSets}
 use Rattle.hierarchy.specs.Tables.{Numbered, Lowest}
 use Rattle.edit_order.specs.Ranking.{LowestOf}
-use Rattle.edit_order.specs.Work.{workLength, downStart, entries, holding, Reached, Placed}
+use Rattle.edit_order.specs.Work.{workLength, downStart, entries, holding, UpAndDown, Placed}
 
 -- ---- the first holders
 
@@ -50,7 +50,7 @@ lowest-more n ws s x s' inv ex step i = (
       (λ d. _⊎_.inl (inv i .1 (w .0, let l = w .1 in omega arith, w .2)))),
 )
 
-pub first-found : (ρ : Roles) (holders : List ℕ) (m s : ℕ) → candidateCount ρ ≤ 128 → ρ .permissions ≡ m → Holds 2 m (rolesOfPermission ρ) holders
+pub first-found : (ρ : Roles) (holders : List ℕ) (m s : ℕ) → candidateCount ρ ≤ 128 → ρ .permissions ≡ m → HoldsSets 2 m (rolesOfPermission ρ) holders
     → LowestOf m holders s → s ≡ firstHolders ρ
 first-found ρ holders m s few em held found =
     same-set s (firstHolders ρ)
@@ -74,7 +74,7 @@ pub put-self : (low : List ℕ) (k x r : ℕ) → k < 128 → x ≡ setAt 2 low 
 put-self low k x r l ex e = e ∙ if-true (ltb k 128) (x ∪ single k) x (ltb-iff k 128 .1 l) ∙ ap (λ (y : ℕ). y ∪ single k) ex
 
 -- a column of the roles down from each are the roles up from one
-up-column : (ρ : Roles) (k : ℕ) (down : List ℕ) → k < candidateCount ρ → Holds 2 (candidateCount ρ) (downFrom ρ) down
+up-column : (ρ : Roles) (k : ℕ) (down : List ℕ) → k < candidateCount ρ → HoldsSets 2 (candidateCount ρ) (downFrom ρ) down
     → holding (candidateCount ρ) (entries down) k ≡ upFrom ρ k
 unfolding holding
 up-column ρ k down l held =
@@ -84,11 +84,11 @@ up-column ρ k down l held =
     (λ i t. let a = collect-iff c test i .0 t in upFrom-iff ρ k i .1 (a .0, downFrom-iff ρ i k .0 (rw (held i (a .0)) at (a .1)) .1))
     (λ i t. let a = upFrom-iff ρ k i .0 t in collect-iff c test i .1 (a .0, rw (held i (a .0)) (downFrom-iff ρ i k .1 (l, a .1))))
 
-pub reached : (low down before ws : List ℕ) (c : ℕ) → length ws ≡ workLength → Holds 2 c (λ k. setAt 2 low (2 * k) ∪ single k) down
-    → Placed down c c downStart before ws → (ρ : Roles) → candidateCount ρ ≡ c → Numbered ρ → Holds 2 (candidateCount ρ) (lower ρ) low
-    → Reached ρ ws
+pub reached : (low down before ws : List ℕ) (c : ℕ) → length ws ≡ workLength → HoldsSets 2 c (λ k. setAt 2 low (2 * k) ∪ single k) down
+    → Placed down c c downStart before ws → (ρ : Roles) → candidateCount ρ ≡ c → Numbered ρ → HoldsSets 2 (candidateCount ρ) (lower ρ) low
+    → UpAndDown ρ ws
 reached low down before ws c size filled put ρ e numbered lows =
-    let held : Holds 2 (candidateCount ρ) (downFrom ρ) down =
+    let held : HoldsSets 2 (candidateCount ρ) (downFrom ρ) down =
     λ k l. filled k (rw e at l) ∙ ap (λ (y : ℕ). y ∪ single k) (lows k l) ∙ down-lower ρ (numbered .distinct) k l in
     record {
       size = size;

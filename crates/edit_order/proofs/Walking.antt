@@ -103,18 +103,18 @@ pub asking-start : (ws : List ℕ) (own b s : ℕ) → Asking ws own b s b s
 asking-start ws own b s = record { left = left-start b s (One ws own) }
 
 -- the first holder g is asked: m' is the smaller of m and its number
-pub record Asked (ws : List ℕ) (own m rest g m' : ℕ) : Type 0 where
+pub record HolderAsked (ws : List ℕ) (own m rest g m' : ℕ) : Type 0 where
   pub there : So (has rest g)
   pub number : (x : ℕ) → (x ≤ m') ↔ ((x ≤ m) × One ws own x g)
 
 pub asked : (ws : List ℕ) (own m rest g up meet n m' : ℕ) → So (has rest g) → up ≡ entry ws upStart g → meet ≡ own ∩ up → n ≡ ones meet
-    → m' ≡ (if ltb n m then n else m) → Asked ws own m rest g m'
+    → m' ≡ (if ltb n m then n else m) → HolderAsked ws own m rest g m'
 asked ws own m rest g up meet n m' there eu em en e =
     let d : n ≡ ones (own ∩ entry ws upStart g) = en ∙ ap ones (em ∙ ap (λ (y : ℕ). own ∩ y) eu) in
     record { there = there; number = λ x. rw d at (smaller-iff n m m' e x) }
 
 module _ (ws : List ℕ) (own b s m rest : ℕ) (given : (ρ : Roles) × Prepared ρ ws × (s < 2 ^ candidateCount ρ)) (inv : Asking ws own b s m rest) where
-  module _ (g m' : ℕ) (a : Asked ws own m rest g m') where
+  module _ (g m' : ℕ) (a : HolderAsked ws own m rest g m') where
     known : g < candidateCount (given .0)
     known = item-below (candidateCount (given .0)) s g (given .2) (inv .left .within g (a .there))
 
@@ -178,7 +178,7 @@ floor-under ρ s k floor lk e =
     (λ t. let none : floor ≡ 0 = e ∙ if-false (has s k) 1 0 t in omega arith)
 
 -- what is known when the walk begins: hs are the first holders, and ss the samples, that are asked for role k
-pub record Begun (ws : List ℕ) (c k hs ss : ℕ) : Type 0 where
+pub record WalkBegun (ws : List ℕ) (c k hs ss : ℕ) : Type 0 where
   pub given : PreparedFor c ws
   pub low : k < c
   pub holders : hs ≡ entry ws downStart k ∩ setAt 2 ws firstStart
@@ -188,7 +188,7 @@ pub record Begun (ws : List ℕ) (c k hs ss : ℕ) : Type 0 where
 pub in-work : (c k : ℕ) (ws : List ℕ) → PreparedFor c ws → k < c → (length ws ≡ workLength) × (k < 128)
 in-work c k ws given l = let n = given .1 in let f = given .2 .reach .few in (given .2 .reach .size, omega arith)
 
-module _ (ws : List ℕ) (c k hs ss : ℕ) (b : Begun ws c k hs ss) where
+module _ (ws : List ℕ) (c k hs ss : ℕ) (b : WalkBegun ws c k hs ss) where
   -- the samples and the first holders that are asked, in the tables of these roles
   module _ (ρ : Roles) (n : candidateCount ρ ≡ c) (P : Prepared ρ ws) where
     role : k < candidateCount ρ

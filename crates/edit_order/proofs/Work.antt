@@ -15,9 +15,9 @@ use Rattle.model.proofs.Lists.{setAt-same}
 use Rattle.stores.specs.Stores.{putAt}
 use Rattle.stores.proofs.Stores.{length-putAt, putAt-below, putAt-above, putAt-in, part-back}
 use Rattle.tables.specs.Stores.{wordsOf}
-use Rattle.tables.specs.Tables.{Holds}
+use Rattle.tables.specs.Tables.{HoldsSets}
 use Rattle.tables.proofs.Stores.{stored-back}
-use Rattle.edit_order.specs.Work.{workLength, downStart, upStart, samplesStart, holdingStart, furtherStart, firstStart, ranksStart, ranksLength, entries, entry, HoldsAt, Unchanged, Reached, usersWithRoles, SamplesOf, holding, further, Sampled, Prepared, Placed}
+use Rattle.edit_order.specs.Work.{workLength, downStart, upStart, samplesStart, holdingStart, furtherStart, firstStart, ranksStart, ranksLength, entries, entry, HoldsAt, Unchanged, UpAndDown, usersWithRoles, SamplesOf, holding, further, Sampled, Prepared, Placed}
 
 -- ---- words that are as before
 
@@ -45,7 +45,7 @@ module _ (a b : ℕ) (xs ys : List ℕ) (same : Unchanged a b xs ys) where
   pub holds-same : (at n : ℕ) (f : ℕ → ℕ) → a ≤ at → at + 2 * n ≤ b → HoldsAt at n f xs → HoldsAt at n f ys
   holds-same at n f l h held k lk = set-same (at + 2 * k) (omega arith) (omega arith) ∙ held k lk
 
-  pub reached-same : (ρ : Roles) → length ys ≡ workLength → a ≤ downStart → samplesStart ≤ b → Reached ρ xs → Reached ρ ys
+  pub reached-same : (ρ : Roles) → length ys ≡ workLength → a ≤ downStart → samplesStart ≤ b → UpAndDown ρ xs → UpAndDown ρ ys
   reached-same ρ size l h r =
       let few = r .few in
       record {
@@ -117,7 +117,7 @@ stored-set l at vs i h b =
     ap (λ (x : ℕ). getD (putAt l at vs) x 0) e ∙ putAt-in l at vs (i + j) h (omega arith))
 
 pub placed : (table ws ws1 out : List ℕ) (n c at w k : ℕ) → length table ≡ 256 → n ≤ 128 → c ≤ 128 → length ws ≡ workLength → at + 512 ≤ workLength
-    → w ≡ 2 * n → ws1 ≡ putAt ws at (take w table) → Holds 2 c (λ k. collect n (λ i. has (setAt 2 table (2 * i)) k)) out → length out ≡ 256 → k ≡ 256
+    → w ≡ 2 * n → ws1 ≡ putAt ws at (take w table) → HoldsSets 2 c (λ k. collect n (λ i. has (setAt 2 table (2 * i)) k)) out → length out ≡ 256 → k ≡ 256
     → Placed table n c at ws (take (at + 256) ws1 ++ (out ++ drop k (drop (at + 256) ws1)))
 unfolding holding
 placed table ws ws1 out n c at w k et ln lc ew fits ww e1 held eo ek =
@@ -163,7 +163,7 @@ module _ (ws1 ws2 ws3 ws4 : List ℕ) (first : ℕ) (size : length ws3 ≡ workL
       unchanged-take downStart before ws4 (length4 ∙ sym l) (omega arith)
       (λ i from to. kept4 i from (omega arith) ∙ kept3 i from (omega arith) ∙ kept2 i from (omega arith) ∙ kept1 i from to)
 
-  pub prepared : (count : ℕ) → first < 2 ^ 128 → (ρ : Roles) → Reached ρ ws1 → (found : ℕ → ℕ) × Sampled ρ count found ws2
+  pub prepared : (count : ℕ) → first < 2 ^ 128 → (ρ : Roles) → UpAndDown ρ ws1 → (found : ℕ → ℕ) × Sampled ρ count found ws2
       → HoldsAt furtherStart count (further count (entry ws2 samplesStart)) ws3 → first ≡ firstHolders ρ → Prepared ρ ws4
   prepared count small ρ reach samples beyond ef =
       let n = samples .1 .few in

@@ -27,7 +27,7 @@ Keyed top ranks s key = (k : ℕ) → So (has s k) → (key k ≤ top) × ((q : 
 
 -- of the roles to do, the one that a pass takes up next, and its key: it is the foremost where none has a key above `top`, and then none has a
 -- key above its own
-pub record Next (ranks : List ℕ) (todo top role rank : ℕ) : Type 0 where
+pub record NextRole (ranks : List ℕ) (todo top role rank : ℕ) : Type 0 where
   pub small : role < 128
   pub there : So (has todo role)
   pub low : rank ≤ top

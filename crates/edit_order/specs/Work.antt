@@ -12,6 +12,7 @@ use Rattle.sets.specs.Sets.{has, subset, collect}
 use Rattle.model.specs.Lists.{setAt}
 use Rattle.model.specs.Hierarchy.{Roles, candidateCount}
 use Rattle.model.specs.Indexes.{rolesOfUser, downFrom, upFrom, firstHolders}
+use Rattle.tables.specs.Tables.{table128Length}
 use Rattle.hierarchy.specs.Tables.{Numbered}
 use Rattle.indexes.specs.Index.{Indexed}
 
@@ -60,7 +61,7 @@ abbrev pub Unchanged : ℕ → ℕ → List ℕ → List ℕ → Type 0
 Unchanged from to before ws = (i : ℕ) → from ≤ i → i < to → getD ws i 0 ≡ getD before i 0
 
 -- the roles down and up from each
-pub record Reached (ρ : Roles) (ws : List ℕ) : Type 0 where
+pub record UpAndDown (ρ : Roles) (ws : List ℕ) : Type 0 where
   pub size : length ws ≡ workLength
   pub few : candidateCount ρ ≤ 128
   pub down : HoldsAt downStart (candidateCount ρ) (downFrom ρ) ws
@@ -93,11 +94,11 @@ pub record Sampled (ρ : Roles) (count : ℕ) (found : ℕ → ℕ) (ws : List �
   pub held : HoldsAt holdingStart (candidateCount ρ) (holding count found) ws
 
 -- sample i is one of `all` samples, for some roles
-pub record Among (ws : List ℕ) (all i : ℕ) : Type 0 where
+pub record KnownSample (ws : List ℕ) (all i : ℕ) : Type 0 where
   pub whose : Roles
   pub count : ℕ
   pub found : ℕ → ℕ
-  pub reach : Reached whose ws
+  pub reach : UpAndDown whose ws
   pub samples : Sampled whose count found ws
   pub one : i < count
   pub everyone : (j : ℕ) → So (has all j) ↔ (j < count)
@@ -105,7 +106,7 @@ pub record Among (ws : List ℕ) (all i : ℕ) : Type 0 where
 -- ---- what the redundancies of these roles are computed from; it changes with the crew list only
 
 pub record Prepared (ρ : Roles) (ws : List ℕ) : Type 0 where
-  pub reach : Reached ρ ws
+  pub reach : UpAndDown ρ ws
   -- how many samples there are, and the roles of each
   pub count : ℕ
   pub found : ℕ → ℕ
@@ -123,5 +124,5 @@ IndexedFor c index = (ρ : Roles) × (candidateCount ρ ≡ c) × Numbered ρ ×
 -- the n sets of a table in the region that starts at place `at`, and the table's c columns in the region after it; what stands before is as before
 pub record Placed (table : List ℕ) (n c at : ℕ) (before ws : List ℕ) : Type 0 where
   pub sets : HoldsAt at n (entries table) ws
-  pub columns : HoldsAt (at + 256) c (holding n (entries table)) ws
+  pub columns : HoldsAt (at + table128Length) c (holding n (entries table)) ws
   pub kept : Unchanged 0 at before ws

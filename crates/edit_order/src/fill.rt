@@ -5,10 +5,10 @@ ghost use lib.ListN.{length, take};
 ghost use Rattle.sets.specs.Sets.{_∪_, single};
 ghost use Rattle.model.specs.Hierarchy.{Roles, candidateCount};
 ghost use Rattle.model.specs.Lists.{setAt};
-ghost use Rattle.tables.specs.Tables.{Filled};
+ghost use Rattle.tables.specs.Tables.{Filled, table128Length};
 ghost use Rattle.hierarchy.specs.Tables.{Numbered};
 ghost use Rattle.indexes.specs.Index.{indexLength, Indexed, AllHolders};
-ghost use Rattle.edit_order.specs.Work.{workLength, downStart, samplesStart, Unchanged, Reached, Sampled, Prepared, IndexedFor, Placed};
+ghost use Rattle.edit_order.specs.Work.{workLength, downStart, samplesStart, Unchanged, UpAndDown, Sampled, Prepared, IndexedFor, Placed};
 use crate::further::fill_further;
 use crate::holders::first_holders;
 use crate::layout::DOWN;
@@ -26,7 +26,7 @@ use tables::store128;
 
 // Each role with those below it.
 fn fill_down(low: &[u64], c: usize, down: &mut [u64])
-    requires { ⌜ (length (now low) ≡ 256) × (length (now down) ≡ 256) × (c ≤ 128) ⌝ }
+    requires { ⌜ (length (now low) ≡ table128Length) × (length (now down) ≡ table128Length) × (c ≤ 128) ⌝ }
     ensures { λ r. ⌜ Filled 2 c (λ k. setAt 2 (now (low .entry)) (2 * k) ∪ single k) (now (down .entry)) (now (down .exit)) ⌝ }
 {
     let mut k = 0;
@@ -38,7 +38,7 @@ fn fill_down(low: &[u64], c: usize, down: &mut [u64])
 
 // The n sets of a table and its c columns, in two regions one after the other.
 fn place(table: &[u64], n: usize, c: usize, work: &mut [u64], at: usize)
-    requires { ⌜ (length (now table) ≡ 256) × (n ≤ 128) × (c ≤ 128) × (length (now work) ≡ workLength) × (at + 512 ≤ workLength) ⌝ }
+    requires { ⌜ (length (now table) ≡ table128Length) × (n ≤ 128) × (c ≤ 128) × (length (now work) ≡ workLength) × (at + 2 * table128Length ≤ workLength) ⌝ }
     ensures { λ r. ⌜ Placed (now (table .entry)) n c at (now (work .entry)) (now (work .exit)) ⌝ }
 {
     let words = 2 * n;
@@ -52,7 +52,7 @@ fn place(table: &[u64], n: usize, c: usize, work: &mut [u64], at: usize)
 fn fill_reach(index: &[u64], c: usize, work: &mut [u64])
     requires { ⌜ (length (now index) ≡ indexLength) × (c ≤ 128) × (length (now work) ≡ workLength) ⌝ }
     ensures { λ r. ⌜ Unchanged 0 downStart (now (work .entry)) (now (work .exit)) ⌝ }
-    ensures { λ r. ⌜ ((ρ : Roles) → candidateCount ρ ≡ c → Numbered ρ → Indexed ρ (now (index .entry)) → Reached ρ (now (work .exit))) ⌝ }
+    ensures { λ r. ⌜ ((ρ : Roles) → candidateCount ρ ≡ c → Numbered ρ → Indexed ρ (now (index .entry)) → UpAndDown ρ (now (work .exit))) ⌝ }
 {
     let mut down = [0u64; 256];
     fill_down(&index[LOWER..ROLES], c, &mut down);

@@ -4,7 +4,7 @@ ghost use mathlib.Core.Logic.{_≢_};
 ghost use Prim.Native.Nat.{_≤_};
 ghost use lib.ListN.{length};
 ghost use Rattle.sets.specs.Held.{set128};
-ghost use Rattle.edit_order.specs.Ranking.{Next};
+ghost use Rattle.edit_order.specs.Ranking.{NextRole};
 ghost use Rattle.edit_order.specs.Work.{ranksLength};
 use hierarchy::lowest_item;
 use sets::Set128;
@@ -22,7 +22,7 @@ pub fn foremost(ranks: &[u64], todo: Set128, top: usize) -> Front
     requires { ⌜ length (now ranks) ≡ ranksLength ⌝ }
     requires { ⌜ set128 todo ≢ 0 ⌝ }
     requires { ⌜ top ≤ 128 ⌝ }
-    ensures { λ r. ⌜ Next (now (ranks .entry)) (set128 todo) top (r .role) (r .rank) ⌝ }
+    ensures { λ r. ⌜ NextRole (now (ranks .entry)) (set128 todo) top (r .role) (r .rank) ⌝ }
 {
     let mut rank = top;
     let mut front = load128(ranks, 2 * rank).intersection(todo);

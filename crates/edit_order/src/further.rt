@@ -5,7 +5,7 @@ ghost use Prim.Native.Nat.{ℕ};
 ghost use Rattle.sets.specs.Held.{set128};
 ghost use Rattle.sets.specs.Sets.{has, subset};
 ghost use Rattle.model.specs.Hierarchy.{Roles};
-ghost use Rattle.edit_order.specs.Work.{samplesStart, furtherStart, entry, HoldsAt, Unchanged, further, Reached, Sampled, Among};
+ghost use Rattle.edit_order.specs.Work.{samplesStart, furtherStart, entry, HoldsAt, Unchanged, further, UpAndDown, Sampled, KnownSample};
 use crate::layout::DOWN;
 use crate::layout::FURTHER;
 use crate::layout::HOLDING;
@@ -17,7 +17,7 @@ use tables::store128;
 
 // Those of `all` samples that have all roles of sample i. Whoever holds a role holds what lies within it, so only the highest of those left is asked for.
 fn further_from(work: &[u64], all: Set128, i: usize) -> Set128
-    requires { ⌜ Among (now work) (set128 all) i ⌝ }
+    requires { ⌜ KnownSample (now work) (set128 all) i ⌝ }
     ensures { λ r. ⌜ ((j : ℕ) → So (has (set128 r) j) ↔ (So (has (set128 all) j) × So (subset (entry (now (work .entry)) samplesStart i) (entry (now (work .entry)) samplesStart j)))) ⌝ }
 {
     let mut found = all;
@@ -32,7 +32,7 @@ fn further_from(work: &[u64], all: Set128, i: usize) -> Set128
 
 // Each sample's entry.
 pub fn fill_further(work: &mut [u64], count: usize)
-    requires { ⌜ ((ρ : Roles) × (found : ℕ → ℕ) × Reached ρ (now work) × Sampled ρ count found (now work)) ⌝ }
+    requires { ⌜ ((ρ : Roles) × (found : ℕ → ℕ) × UpAndDown ρ (now work) × Sampled ρ count found (now work)) ⌝ }
     ensures { λ r. ⌜ Unchanged 0 furtherStart (now (work .entry)) (now (work .exit)) ⌝ }
     ensures { λ r. ⌜ HoldsAt furtherStart count (further count (entry (now (work .entry)) samplesStart)) (now (work .exit)) ⌝ }
 {

@@ -9,6 +9,7 @@ ghost use Rattle.model.specs.Hierarchy.{Roles, candidateCount};
 ghost use Rattle.model.specs.Indexes.{rolesOfUser};
 ghost use Rattle.indexes.specs.Index.{indexLength, rolesStart, Indexed};
 ghost use Rattle.edit_order.specs.Work.{entries, entry, usersWithRoles, SamplesOf};
+ghost use Rattle.tables.specs.Tables.{table128Length};
 use hierarchy::lowest_item;
 use indexes::ROLES;
 use indexes::USERS;
@@ -18,7 +19,7 @@ use tables::store128;
 
 // Puts the roles s of one more user after the first `count` sets of the table, unless the last of them is the same. Answers how many there are then.
 fn add_sample(table: &mut [u64], count: usize, s: Set128) -> usize
-    requires { ⌜ length (now table) ≡ 256 ⌝ }
+    requires { ⌜ length (now table) ≡ table128Length ⌝ }
     requires { ⌜ count < 128 ⌝ }
     ensures { λ r. ⌜ r ≤ count + 1 ⌝ }
     ensures { λ r. ⌜ ((users u : ℕ) (roles : ℕ → ℕ) → SamplesOf users roles count (entries (now (table .entry))) → set128 s ≡ roles u → SamplesOf (users ∪ single u) roles r (entries (now (table .exit)))) ⌝ }
@@ -34,7 +35,7 @@ fn add_sample(table: &mut [u64], count: usize, s: Set128) -> usize
 
 // The samples of these users, after those that are there.
 fn add_samples(index: &[u64], users: Set128, table: &mut [u64], count: usize) -> usize
-    requires { ⌜ (length (now index) ≡ indexLength) × (length (now table) ≡ 256) × (count + ones (set128 users) ≤ 128) ⌝ }
+    requires { ⌜ (length (now index) ≡ indexLength) × (length (now table) ≡ table128Length) × (count + ones (set128 users) ≤ 128) ⌝ }
     ensures { λ r. ⌜ r ≤ count + ones (set128 users) ⌝ }
     ensures { λ r. ⌜ ((met : ℕ) → SamplesOf met (entry (now (index .entry)) rolesStart) count (entries (now (table .entry))) → SamplesOf (met ∪ set128 users) (entry (now (index .entry)) rolesStart) r (entries (now (table .exit)))) ⌝ }
 {
@@ -51,7 +52,7 @@ fn add_samples(index: &[u64], users: Set128, table: &mut [u64], count: usize) ->
 // The samples of all users, and how many they are. A user is met at the highest of the user's roles, from the last role down: so users with the same
 // roles come together, and a sample that has all roles of another and a higher one comes before it.
 pub fn find_samples(index: &[u64], c: usize, table: &mut [u64]) -> usize
-    requires { ⌜ (length (now index) ≡ indexLength) × (c ≤ 128) × (length (now table) ≡ 256) ⌝ }
+    requires { ⌜ (length (now index) ≡ indexLength) × (c ≤ 128) × (length (now table) ≡ table128Length) ⌝ }
     ensures { λ r. ⌜ r ≤ 128 ⌝ }
     ensures { λ r. ⌜ ((ρ : Roles) → candidateCount ρ ≡ c → Indexed ρ (now (index .entry)) → SamplesOf (usersWithRoles ρ) (rolesOfUser ρ) r (entries (now (table .exit)))) ⌝ }
 {

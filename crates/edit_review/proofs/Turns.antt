@@ -19,8 +19,8 @@ use Rattle.model.specs.State.{State, rolesOf, standingNow}
 use Rattle.model.proofs.Steps.{standing-now}
 use Rattle.edit_trials.specs.declared.progress.Progress.{Progress}
 use Rattle.rows.specs.Linked.{Ready}
-use Rattle.edit_trials.specs.Trying.{runAt, Kin, Going}
-use Rattle.edit_trials.proofs.Runs.{roles-count, ready-few, kin-same, kin-trans, kin-roles, kin-count}
+use Rattle.edit_trials.specs.Trying.{runAt, SameCrewList, InStep}
+use Rattle.edit_trials.proofs.Runs.{roles-count, ready-few, crew-same, crew-trans, crew-roles, crew-count}
 use Rattle.edit_review.specs.Reviewing.{Stepped}
 
 -- ---- one candidate
@@ -116,17 +116,17 @@ passes-none ρ w r = refl
 abbrev pub Passing : (ws index : List ℕ) (w : Weights) (at : Progress) (mid seniors : List ℕ) (g : Progress) (k : ℕ) → Type 0
 Passing ws index w at mid seniors g k = Stepped (reviewTo (rolesOf (stateOf ws)) w k) ws at mid index seniors g
 
-pub passing-start : (ws index seniors : List ℕ) (w : Weights) (at : Progress) → Going ws index seniors at → Passing ws index w at ws seniors at 0
-passing-start ws index seniors w at g = record { going = g; kin = kin-same ws; run = pass-none ws at w }
+pub passing-start : (ws index seniors : List ℕ) (w : Weights) (at : Progress) → InStep ws index seniors at → Passing ws index w at ws seniors at 0
+passing-start ws index seniors w at g = record { in-step = g; same-crew = crew-same ws; run = pass-none ws at w }
 
 module _ (ws index : List ℕ) (w : Weights) (at : Progress) (mid seniors : List ℕ) (g : Progress) (k : ℕ) (p : Passing ws index w at mid seniors g k) where
   pub passing-more : (after seniors' : List ℕ) (r : Progress) → Stepped (tryRestore (rolesOf (stateOf mid)) w k) mid g after index seniors' r
       → Passing ws index w at after seniors' r (k + 1)
   passing-more after seniors' r t =
       record {
-        going = t .going;
-        kin = kin-trans (stateOf ws) mid after (p .kin) (t .kin);
-        run = pass-more ws mid after at g r w k (kin-roles (stateOf ws) mid (p .kin)) (p .run) (t .run);
+        in-step = t .in-step;
+        same-crew = crew-trans (stateOf ws) mid after (p .same-crew) (t .same-crew);
+        run = pass-more ws mid after at g r w k (crew-roles (stateOf ws) mid (p .same-crew)) (p .run) (t .run);
       }
 
   pub passing-bound : (g .changed ≤ at .changed + k) × (g .examined ≤ at .examined + k)
@@ -137,8 +137,8 @@ module _ (ws index : List ℕ) (w : Weights) (at : Progress) (mid seniors : List
       let examined : g .examined ≡ reviewTo (rolesOf (stateOf ws)) w k (runAt ws at 0) .examined = ap (λ (x : Run). x .examined) (p .run 0) in
       (rw changed (b .0), rw examined (b .1))
 
-  pub passing-count : (seniors₀ : List ℕ) → Going ws index seniors₀ at → getD mid 2 0 ≡ getD ws 2 0
-  passing-count seniors₀ a = kin-count ws index seniors₀ mid index seniors (a .ready) (p .going .ready) (p .kin)
+  pub passing-count : (seniors₀ : List ℕ) → InStep ws index seniors₀ at → getD mid 2 0 ≡ getD ws 2 0
+  passing-count seniors₀ a = crew-count ws index seniors₀ mid index seniors (a .ready) (p .in-step .ready) (p .same-crew)
 
 -- ---- all passes as the code makes them: mid and g are what the passes before have left, and `left` more may follow
 
@@ -148,45 +148,45 @@ unfolding runAt begin
 begun ws g w eq ec ee = λ i. record { standing = stateOf ws .standing; worklist = 0; reference = eq i; changed = ec i; examined = ee i }
 
 pub record Running (ws index : List ℕ) (w : Weights) (mid seniors : List ℕ) (g : Progress) (left : ℕ) : Type 0 where
-  pub going : Going mid index seniors g
-  pub kin : Kin (stateOf ws) mid
+  pub in-step : InStep mid index seniors g
+  pub same-crew : SameCrewList (stateOf ws) mid
   pub rest : reviewed (rolesOf (stateOf ws)) w (stateOf ws .standing) ≡ reviewPasses (rolesOf (stateOf ws)) w left (runAt mid g 0)
   pub changed : g .changed + 128 * left ≤ 16512
   pub examined : g .examined + 128 * left ≤ 16512
 
-pub running-start : (ws index seniors : List ℕ) (w : Weights) (g : Progress) (left : ℕ) → Going ws index seniors g → g .quality ≡ quality (rolesOf (stateOf ws)) w (stateOf ws .standing)
+pub running-start : (ws index seniors : List ℕ) (w : Weights) (g : Progress) (left : ℕ) → InStep ws index seniors g → g .quality ≡ quality (rolesOf (stateOf ws)) w (stateOf ws .standing)
     → g .changed ≡ 0 → g .examined ≡ 0 → left ≡ getD ws 2 0 + 1 → Running ws index w ws seniors g left
 unfolding reviewed
-running-start ws index seniors w g left going eq ec ee el =
-    let f = ready-few ws index seniors (going .ready) in
-    let n : left ≡ suc (candidateCount (rolesOf (stateOf ws))) = el ∙ add-one (getD ws 2 0) ∙ ap suc (sym (roles-count ws index seniors (going .ready))) in
+running-start ws index seniors w g left in-step eq ec ee el =
+    let f = ready-few ws index seniors (in-step .ready) in
+    let n : left ≡ suc (candidateCount (rolesOf (stateOf ws))) = el ∙ add-one (getD ws 2 0) ∙ ap suc (sym (roles-count ws index seniors (in-step .ready))) in
     record {
-      going = going;
-      kin = kin-same ws;
+      in-step = in-step;
+      same-crew = crew-same ws;
       rest = rw (n, begun ws g w eq ec ee) refl;
       changed = omega arith;
       examined = omega arith;
     }
 
 -- what a review leaves
-abbrev pub Ended : (ws index : List ℕ) (w : Weights) (after seniors : List ℕ) (r : Progress) → Type 0
-Ended ws index w after seniors r =
-    Ready (stateOf after) after index seniors × (Kin (stateOf ws) after × (runAt after r 0 ≡ reviewed (rolesOf (stateOf ws)) w (stateOf ws .standing)))
+abbrev pub ReviewEnded : (ws index : List ℕ) (w : Weights) (after seniors : List ℕ) (r : Progress) → Type 0
+ReviewEnded ws index w after seniors r =
+    Ready (stateOf after) after index seniors × (SameCrewList (stateOf ws) after × (runAt after r 0 ≡ reviewed (rolesOf (stateOf ws)) w (stateOf ws .standing)))
 
 module _ (ws index : List ℕ) (w : Weights) (mid seniors : List ℕ) (g : Progress) (left : ℕ) (p : Running ws index w mid seniors g left) (some : 0 < left)
     (after seniors' : List ℕ) (r : Progress) (t : Stepped (reviewTo (rolesOf (stateOf mid)) w (getD mid 2 0)) mid g after index seniors' r) where
   next-run : runAt after r 0 ≡ reviewTo (rolesOf (stateOf ws)) w (candidateCount (rolesOf (stateOf ws))) (runAt mid g 0)
-  next-run = rw (sym (roles-count mid index seniors (p .going .ready)), kin-roles (stateOf ws) mid (p .kin)) at (t .run 0)
+  next-run = rw (sym (roles-count mid index seniors (p .in-step .ready)), crew-roles (stateOf ws) mid (p .same-crew)) at (t .run 0)
 
   one-less : left ≡ suc (left - 1)
   one-less = omega arith
 
-  pub running-last : r .changed ≡ g .changed → Ended ws index w after seniors' r
+  pub running-last : r .changed ≡ g .changed → ReviewEnded ws index w after seniors' r
   unfolding runAt
   running-last e = (
-    t .going .ready,
+    t .in-step .ready,
     (
-      kin-trans (stateOf ws) mid after (p .kin) (t .kin),
+      crew-trans (stateOf ws) mid after (p .same-crew) (t .same-crew),
       sym (p .rest ∙ ap (λ (n : ℕ). reviewPasses (rolesOf (stateOf ws)) w n (runAt mid g 0)) one-less ∙ passes-last (rolesOf (stateOf ws)) w (left - 1) (runAt mid g 0) (runAt after r 0) next-run e),
     ),
   )
@@ -195,19 +195,19 @@ module _ (ws index : List ℕ) (w : Weights) (mid seniors : List ℕ) (g : Progr
   unfolding runAt
   running-more d =
       let b = pass-counts (rolesOf (stateOf ws)) w (candidateCount (rolesOf (stateOf ws))) (runAt mid g 0) in
-      let few = rw (kin-roles (stateOf ws) mid (p .kin)) at (p .going .ready .limits .candidates-most) in
+      let few = rw (crew-roles (stateOf ws) mid (p .same-crew)) at (p .in-step .ready .limits .candidates-most) in
       let changed : r .changed ≤ g .changed + candidateCount (rolesOf (stateOf ws)) = rw (ap (λ (x : Run). x .changed) next-run) (b .0) in
       let examined : r .examined ≤ g .examined + candidateCount (rolesOf (stateOf ws)) = rw (ap (λ (x : Run). x .examined) next-run) (b .1) in
       let pc = p .changed in
       let pe = p .examined in
       record {
-        going = t .going;
-        kin = kin-trans (stateOf ws) mid after (p .kin) (t .kin);
+        in-step = t .in-step;
+        same-crew = crew-trans (stateOf ws) mid after (p .same-crew) (t .same-crew);
         rest = p .rest ∙ ap (λ (n : ℕ). reviewPasses (rolesOf (stateOf ws)) w n (runAt mid g 0)) one-less ∙ passes-on (rolesOf (stateOf ws)) w (left - 1) (runAt mid g 0) (runAt after r 0) next-run d;
         changed = omega arith;
         examined = omega arith;
       }
 
-pub running-out : (ws index : List ℕ) (w : Weights) (mid seniors : List ℕ) (g : Progress) (left : ℕ) → Running ws index w mid seniors g left → left ≡ 0 → Ended ws index w mid seniors g
+pub running-out : (ws index : List ℕ) (w : Weights) (mid seniors : List ℕ) (g : Progress) (left : ℕ) → Running ws index w mid seniors g left → left ≡ 0 → ReviewEnded ws index w mid seniors g
 running-out ws index w mid seniors g left p e =
-    (p .going .ready, (p .kin, sym (p .rest ∙ ap (λ (n : ℕ). reviewPasses (rolesOf (stateOf ws)) w n (runAt mid g 0)) e ∙ passes-none (rolesOf (stateOf ws)) w (runAt mid g 0))))
+    (p .in-step .ready, (p .same-crew, sym (p .rest ∙ ap (λ (n : ℕ). reviewPasses (rolesOf (stateOf ws)) w n (runAt mid g 0)) e ∙ passes-none (rolesOf (stateOf ws)) w (runAt mid g 0))))

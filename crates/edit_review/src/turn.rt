@@ -8,8 +8,9 @@ ghost use Rattle.model.specs.Record.{recordLength, stateOf};
 ghost use Rattle.model.specs.State.{rolesOf};
 ghost use Rattle.quality.specs.Numbers.{weightsIn};
 ghost use Rattle.indexes.specs.Index.{indexLength};
-ghost use Rattle.edit_trials.specs.Trying.{Going};
+ghost use Rattle.edit_trials.specs.Trying.{InStep};
 ghost use Rattle.edit_review.specs.Reviewing.{Stepped, turnRoom};
+ghost use Rattle.tables.specs.Tables.{table128Length};
 use edit_rows::put_back_at;
 use edit_trials::Progress;
 use edit_trials::if_restored;
@@ -27,12 +28,12 @@ pub fn try_restore(
     k: usize,
     at: Progress,
 ) -> Progress
-    requires { ⌜ Going (now rec) (now index) (now seniors) at ⌝ }
+    requires { ⌜ InStep (now rec) (now index) (now seniors) at ⌝ }
     requires { ⌜ So (weightsAllowed (weightsIn w)) ⌝ }
     requires { ⌜ k < getD (now rec) 2 0 ⌝ }
     requires { ⌜ at .changed ≤ turnRoom ⌝ }
     requires { ⌜ at .examined ≤ turnRoom ⌝ }
-    requires { ⌜ (length (now rec) ≡ recordLength) × (length (now index) ≡ indexLength) × (length (now seniors) ≡ 256) ⌝ }
+    requires { ⌜ (length (now rec) ≡ recordLength) × (length (now index) ≡ indexLength) × (length (now seniors) ≡ table128Length) ⌝ }
     ensures { λ r. ⌜ Stepped (tryRestore (rolesOf (stateOf (now (rec .entry)))) (weightsIn w) k) (now (rec .entry)) at (now (rec .exit)) (now (index .entry)) (now (seniors .exit)) r ⌝ }
 {
     if load128(rec, STANDING).contains(k) {

@@ -9,8 +9,9 @@ ghost use Rattle.model.specs.State.{rolesOf};
 ghost use Rattle.quality.specs.Numbers.{weightsIn};
 ghost use Rattle.indexes.specs.Index.{indexLength};
 ghost use Rattle.rows.specs.Linked.{Ready};
-ghost use Rattle.edit_trials.specs.Trying.{Exact, Going, Kin, runAt};
+ghost use Rattle.edit_trials.specs.Trying.{Exact, InStep, SameCrewList, runAt};
 ghost use Rattle.edit_review.specs.Reviewing.{Stepped, passRoom};
+ghost use Rattle.tables.specs.Tables.{table128Length};
 use crate::turn::try_restore;
 use edit_trials::Progress;
 use quality::Counts;
@@ -25,11 +26,11 @@ fn review_pass(
     w: Weights,
     at: Progress,
 ) -> Progress
-    requires { ⌜ Going (now rec) (now index) (now seniors) at ⌝ }
+    requires { ⌜ InStep (now rec) (now index) (now seniors) at ⌝ }
     requires { ⌜ So (weightsAllowed (weightsIn w)) ⌝ }
     requires { ⌜ at .changed ≤ passRoom ⌝ }
     requires { ⌜ at .examined ≤ passRoom ⌝ }
-    requires { ⌜ (length (now rec) ≡ recordLength) × (length (now index) ≡ indexLength) × (length (now seniors) ≡ 256) ⌝ }
+    requires { ⌜ (length (now rec) ≡ recordLength) × (length (now index) ≡ indexLength) × (length (now seniors) ≡ table128Length) ⌝ }
     ensures { λ r. ⌜ Stepped (reviewTo (rolesOf (stateOf (now (rec .entry)))) (weightsIn w) (getD (now (rec .entry)) 2 0)) (now (rec .entry)) at (now (rec .exit)) (now (index .entry)) (now (seniors .exit)) r ⌝ }
 {
     let c = rec[2] as usize;
@@ -53,9 +54,9 @@ pub fn review_all(
     requires { ⌜ Ready (stateOf (now rec)) (now rec) (now index) (now seniors) ⌝ }
     requires { ⌜ Exact (now rec) counts ⌝ }
     requires { ⌜ So (weightsAllowed (weightsIn w)) ⌝ }
-    requires { ⌜ (length (now rec) ≡ recordLength) × (length (now index) ≡ indexLength) × (length (now seniors) ≡ 256) ⌝ }
+    requires { ⌜ (length (now rec) ≡ recordLength) × (length (now index) ≡ indexLength) × (length (now seniors) ≡ table128Length) ⌝ }
     ensures { λ r. ⌜ Ready (stateOf (now (rec .exit))) (now (rec .exit)) (now (index .entry)) (now (seniors .exit)) ⌝ }
-    ensures { λ r. ⌜ Kin (stateOf (now (rec .entry))) (now (rec .exit)) ⌝ }
+    ensures { λ r. ⌜ SameCrewList (stateOf (now (rec .entry))) (now (rec .exit)) ⌝ }
     ensures { λ r. ⌜ runAt (now (rec .exit)) r 0 ≡ reviewed (rolesOf (stateOf (now (rec .entry)))) (weightsIn w) (stateOf (now (rec .entry)) .standing) ⌝ }
 {
     let mut left = rec[2] as usize + 1;

@@ -23,7 +23,7 @@ use Rattle.model.proofs.Record.{read-count, read-standing}
 use Rattle.model.proofs.Steps.{limits-ordered, limits-now}
 use Rattle.stores.specs.Stores.{putAt}
 use Rattle.tables.specs.Stores.{wordsOf}
-use Rattle.tables.specs.Tables.{Holds}
+use Rattle.tables.specs.Tables.{HoldsSets}
 use Rattle.tables.proofs.Stores.{stored-after}
 use Rattle.hierarchy.specs.Tables.{Numbered, immediateSeniors}
 use Rattle.hierarchy.proofs.Reading.{read-sets, read-permissions-of, read-members-of, read-juniors-of}
@@ -102,7 +102,7 @@ module _ (st : State) (lim : Limits st) (ws : List ℕ) (e : ws ≡ built st) wh
   pub standing-read : setAt 2 ws 4 ≡ st .standing
   standing-read = ap (λ (l : List ℕ). setAt 2 l 4) e ∙ read-standing st lim
 
-  pub sets-read : Holds 4 (candidateCount (rolesOf st)) (permissionSet (rolesOf st)) (take 512 (drop setsStart ws))
+  pub sets-read : HoldsSets 4 (candidateCount (rolesOf st)) (permissionSet (rolesOf st)) (take 512 (drop setsStart ws))
   sets-read = rw e (read-sets st lim (narrow st lim))
 
   module _ (k : ℕ) (small : k < 128) where

@@ -15,6 +15,7 @@ ghost use Rattle.indexes.specs.Index.{indexLength};
 ghost use Rattle.rows.specs.Linked.{Ready};
 ghost use Rattle.rows.specs.Partway.{Differ};
 ghost use Rattle.edit_rows.specs.Neighbours.{Neighbours};
+ghost use Rattle.tables.specs.Tables.{table128Length};
 use hierarchy::juniors_of;
 use hierarchy::seniors_of;
 use indexes::LOWER;
@@ -39,7 +40,7 @@ fn change_standing(
 )
     requires { ⌜ length (now rec) ≡ recordLength ⌝ }
     requires { ⌜ length (now index) ≡ indexLength ⌝ }
-    requires { ⌜ length (now seniors) ≡ 256 ⌝ }
+    requires { ⌜ length (now seniors) ≡ table128Length ⌝ }
     ensures { λ r. ⌜ ((st : State) → Ready st (now (rec .entry)) (now (index .entry)) (now (seniors .entry)) → set128 standing < 2 ^ candidateCount (rolesOf st) → Differ (rolesOf st) (st .standing) (set128 standing) (set128 uppers) (set128 lowers) → Ready (standingNow st (set128 standing)) (now (rec .exit)) (now (index .entry)) (now (seniors .exit))) ⌝ }
 {
     store128(rec, STANDING, standing);
@@ -71,7 +72,7 @@ pub fn take_out_at(
 )
     requires { ⌜ length (now rec) ≡ recordLength ⌝ }
     requires { ⌜ length (now index) ≡ indexLength ⌝ }
-    requires { ⌜ length (now seniors) ≡ 256 ⌝ }
+    requires { ⌜ length (now seniors) ≡ table128Length ⌝ }
     requires { ⌜ k < 128 ⌝ }
     ensures { λ r. ⌜ ((st : State) → Ready st (now (rec .entry)) (now (index .entry)) (now (seniors .entry)) → So (has (st .standing) k) → Neighbours (rolesOf st) (st .standing) k (set128 above) (set128 below) → Ready (standingNow st (st .standing ∖ single k)) (now (rec .exit)) (now (index .entry)) (now (seniors .exit))) ⌝ }
 {
@@ -84,7 +85,7 @@ pub fn take_out_at(
 pub fn take_out(rec: &mut [u64], index: &[u64], seniors: &mut [u64], k: usize)
     requires { ⌜ length (now rec) ≡ recordLength ⌝ }
     requires { ⌜ length (now index) ≡ indexLength ⌝ }
-    requires { ⌜ length (now seniors) ≡ 256 ⌝ }
+    requires { ⌜ length (now seniors) ≡ table128Length ⌝ }
     requires { ⌜ k < 128 ⌝ }
     ensures { λ r. ⌜ ((st : State) → Ready st (now (rec .entry)) (now (index .entry)) (now (seniors .entry)) → So (has (st .standing) k) → Ready (standingNow st (st .standing ∖ single k)) (now (rec .exit)) (now (index .entry)) (now (seniors .exit))) ⌝ }
 {
@@ -104,7 +105,7 @@ pub fn put_back_at(
 )
     requires { ⌜ length (now rec) ≡ recordLength ⌝ }
     requires { ⌜ length (now index) ≡ indexLength ⌝ }
-    requires { ⌜ length (now seniors) ≡ 256 ⌝ }
+    requires { ⌜ length (now seniors) ≡ table128Length ⌝ }
     requires { ⌜ k < 128 ⌝ }
     ensures { λ r. ⌜ ((st : State) → Ready st (now (rec .entry)) (now (index .entry)) (now (seniors .entry)) → k < candidateCount (rolesOf st) → has (st .standing) k ≡ false → Neighbours (rolesOf st) (st .standing ∪ single k) k (set128 above) (set128 below) → Ready (standingNow st (st .standing ∪ single k)) (now (rec .exit)) (now (index .entry)) (now (seniors .exit))) ⌝ }
 {
@@ -116,7 +117,7 @@ pub fn put_back_at(
 pub fn put_back(rec: &mut [u64], index: &[u64], seniors: &mut [u64], k: usize)
     requires { ⌜ length (now rec) ≡ recordLength ⌝ }
     requires { ⌜ length (now index) ≡ indexLength ⌝ }
-    requires { ⌜ length (now seniors) ≡ 256 ⌝ }
+    requires { ⌜ length (now seniors) ≡ table128Length ⌝ }
     requires { ⌜ k < 128 ⌝ }
     ensures { λ r. ⌜ ((st : State) → Ready st (now (rec .entry)) (now (index .entry)) (now (seniors .entry)) → k < candidateCount (rolesOf st) → has (st .standing) k ≡ false → Ready (standingNow st (st .standing ∪ single k)) (now (rec .exit)) (now (index .entry)) (now (seniors .exit))) ⌝ }
 {

@@ -19,7 +19,7 @@ use Rattle.model.proofs.Lists.{setAt-same}
 use Rattle.model.proofs.Record.{read-count}
 use Rattle.stores.specs.Stores.{putAt}
 use Rattle.stores.proofs.Stores.{length-putAt, putAt-below, putAt-in, part-back}
-use Rattle.tables.specs.Tables.{Holds}
+use Rattle.tables.specs.Tables.{HoldsSets}
 use Rattle.tables.proofs.Parts.{setAt-part}
 use Rattle.tables.proofs.Tables.{HeldBut}
 use Rattle.hierarchy.proofs.Reading.{read-sets}
@@ -32,11 +32,11 @@ pub held-all : (s rest : ℕ) (f : ℕ → ℕ) (ws : List ℕ) → HeldBut s re
 held-all s rest f ws inv e p h = inv p h (λ t. So-not (has-zero p) (rw e at t))
 
 -- the sets of a record, as a table
-pub sets-read : (st : State) → Limits st → (ws : List ℕ) → ws ≡ built st → Holds 4 (candidateCount (rolesOf st)) (permissionSet (rolesOf st)) (take 512 (drop setsStart ws))
+pub sets-read : (st : State) → Limits st → (ws : List ℕ) → ws ≡ built st → HoldsSets 4 (candidateCount (rolesOf st)) (permissionSet (rolesOf st)) (take 512 (drop setsStart ws))
 sets-read st lim ws e = rw e (read-sets st lim (narrow st lim))
 
 -- the places of a table of the roles' sets that hold p are the roles that hold p
-pub holders-are : (ρ : Roles) (c p : ℕ) (table : List ℕ) → candidateCount ρ ≡ c → Holds 4 (candidateCount ρ) (permissionSet ρ) table
+pub holders-are : (ρ : Roles) (c p : ℕ) (table : List ℕ) → candidateCount ρ ≡ c → HoldsSets 4 (candidateCount ρ) (permissionSet ρ) table
     → collect c (λ k. has (setAt 4 table (4 * k)) p) ≡ rolesOfPermission ρ p
 unfolding rolesOfPermission
 holders-are ρ c p table e h =

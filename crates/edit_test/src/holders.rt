@@ -10,7 +10,7 @@ ghost use Rattle.model.specs.Lists.{setAt};
 ghost use Rattle.model.specs.Hierarchy.{Roles};
 ghost use Rattle.model.specs.Record.{recordLength, built, Limits};
 ghost use Rattle.model.specs.State.{State, rolesOf};
-ghost use Rattle.indexes.specs.Index.{indexLength, Indexed, HoldersFor};
+ghost use Rattle.indexes.specs.Index.{indexLength, Indexed, HoldersFor, holdersLength};
 ghost use Rattle.edit_test.specs.Covering.{HoldsFor};
 use columns::column_of;
 use columns::fill_columns_of;
@@ -56,7 +56,7 @@ pub fn fill_holders(rec: &[u64], index: &mut [u64], permissions: Set256)
 fn fill_columns_for(table: &[u64], c: usize, permissions: Set256, out: &mut [u64])
     requires { ⌜ c ≤ 128 ⌝ }
     requires { ⌜ 4 * c ≤ length (now table) ⌝ }
-    requires { ⌜ length (now out) ≡ 512 ⌝ }
+    requires { ⌜ length (now out) ≡ holdersLength ⌝ }
     ensures { λ r. ⌜ HoldsFor (set256 permissions) (λ p. collect c (λ k. has (setAt 4 (now (table .entry)) (4 * k)) p)) (now (out .exit)) ⌝ }
 {
     if permissions.count() < 24 {
@@ -69,7 +69,7 @@ fn fill_columns_for(table: &[u64], c: usize, permissions: Set256, out: &mut [u64
 fn fill_few_columns_for(table: &[u64], c: usize, permissions: Set256, out: &mut [u64])
     requires { ⌜ c ≤ 128 ⌝ }
     requires { ⌜ 4 * c ≤ length (now table) ⌝ }
-    requires { ⌜ length (now out) ≡ 512 ⌝ }
+    requires { ⌜ length (now out) ≡ holdersLength ⌝ }
     ensures { λ r. ⌜ HoldsFor (set256 permissions) (λ p. collect c (λ k. has (setAt 4 (now (table .entry)) (4 * k)) p)) (now (out .exit)) ⌝ }
 {
     let mut rest = permissions;

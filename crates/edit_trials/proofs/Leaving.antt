@@ -24,7 +24,7 @@ use Rattle.model.proofs.Reading.{Ordered, junior-iff, permission-iff, member-if
 use Rattle.model.proofs.Building.{stands-below}
 use Rattle.model.proofs.Record.{immediateJuniors-lt}
 use Rattle.model.proofs.Steps.{limits-ordered}
-use Rattle.tables.specs.Tables.{Holds}
+use Rattle.tables.specs.Tables.{HoldsSets}
 use Rattle.tables.proofs.Parts.{setAt-part}
 use Rattle.hierarchy.specs.Tables.{lessAll, immediateSeniors}
 use Rattle.hierarchy.proofs.Sieving.{lessAll-iff}
@@ -43,7 +43,7 @@ use Rattle.edit_trials.proofs.Coming.{takenFrom, went, went-within}
 use Rattle.edit_trials.proofs.Counting.{role-counted, exact-few}
 
 -- what a table leaves of a set, told item by item
-left-over : (w c : ℕ) (table : List ℕ) (f : ℕ → ℕ) (own js g : ℕ) → c ≤ 128 → Holds w c f table → js < 2 ^ c → ((p : ℕ) → So (has own p) → p < 64 * w)
+left-over : (w c : ℕ) (table : List ℕ) (f : ℕ → ℕ) (own js g : ℕ) → c ≤ 128 → HoldsSets w c f table → js < 2 ^ c → ((p : ℕ) → So (has own p) → p < 64 * w)
     → ((p : ℕ) → So (has g p) ↔ (So (has own p) × ((x : ℕ) → So (has js x) → So (has (f x) p) → ⊥))) → lessAll w table own js ≡ g
 left-over w c table f own js g few held below small told =
     same-set (lessAll w table own js) g

@@ -19,7 +19,7 @@ use Rattle.model.specs.State.{State, rolesOf}
 use Rattle.model.proofs.Changes.{restored-ordered}
 use Rattle.model.proofs.Record.{immediateJuniors-lt}
 use Rattle.model.proofs.Steps.{limits-ordered}
-use Rattle.tables.specs.Tables.{Holds}
+use Rattle.tables.specs.Tables.{HoldsSets}
 use Rattle.tables.proofs.Parts.{setAt-part}
 use Rattle.hierarchy.specs.Tables.{Numbered, Narrow, immediateSeniors}
 use Rattle.indexes.specs.Index.{usersStart, LowerRoles, RoleUsers}
@@ -106,7 +106,7 @@ module _ (st : State) (ws index : List ℕ) (k : ℕ) (given : Restorable st ws 
         record { seniors = found s immediateSeniors hs; juniors = found t immediateJuniors ht }
 
     pub tried-gained : (s t : ℕ) → Neighbours (rolesOf st) (st .standing ∪ single k) k s t → (b : Counts)
-        → ((ρ : Roles) → Numbered ρ → Narrow ρ → Holds 4 (candidateCount ρ) (permissionSet ρ) (take 512 (drop setsStart ws)) → RoleUsers ρ index → R < 2 ^ candidateCount ρ → Neighbours ρ R k s t → countsIn b ≡ countedIn ρ R k)
+        → ((ρ : Roles) → Numbered ρ → Narrow ρ → HoldsSets 4 (candidateCount ρ) (permissionSet ρ) (take 512 (drop setsStart ws)) → RoleUsers ρ index → R < 2 ^ candidateCount ρ → Neighbours ρ R k s t → countsIn b ≡ countedIn ρ R k)
         → countsIn b ≡ countedIn (rolesOf st) (st .standing ∪ single k) k
     tried-gained s t near b h =
         rw same at

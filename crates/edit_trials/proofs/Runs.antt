@@ -21,7 +21,7 @@ use Rattle.quality.specs.declared.counts.Counts.{Counts}
 use Rattle.quality.specs.Numbers.{countsIn, Few, weightsIn}
 use Rattle.edit_trials.specs.declared.progress.Progress.{Progress}
 use Rattle.quality.specs.declared.weights.Weights.{Weights}
-use Rattle.edit_trials.specs.Trying.{Exact, Kin, Going}
+use Rattle.edit_trials.specs.Trying.{Exact, SameCrewList, InStep}
 use Rattle.edit_trials.proofs.Counting.{exact-few}
 
 -- ---- a record that is ready, for whatever state, is so for its own
@@ -64,35 +64,35 @@ pub weighed : (ws : List ℕ) (q : Counts) (w : Weights) (x : ℕ) → Exact ws 
 unfolding model.quality
 weighed ws q w x e ex = ex ∙ rw e refl
 
--- ---- kin
+-- ---- same-crew
 
-pub kin-same : (ws : List ℕ) → Kin (stateOf ws) ws
-kin-same ws = sym (now-same (stateOf ws))
+pub crew-same : (ws : List ℕ) → SameCrewList (stateOf ws) ws
+crew-same ws = sym (now-same (stateOf ws))
 
-pub kin-now : (ws after : List ℕ) (S : ℕ) → stateOf after ≡ standingNow (stateOf ws) S → Kin (stateOf ws) after
-kin-now ws after S e = e ∙ ap (standingNow (stateOf ws)) (sym (standing-now (stateOf ws) S) ∙ ap (λ (st : State). st .standing) (sym e))
+pub crew-now : (ws after : List ℕ) (S : ℕ) → stateOf after ≡ standingNow (stateOf ws) S → SameCrewList (stateOf ws) after
+crew-now ws after S e = e ∙ ap (standingNow (stateOf ws)) (sym (standing-now (stateOf ws) S) ∙ ap (λ (st : State). st .standing) (sym e))
 
-pub kin-trans : (st : State) (ws after : List ℕ) → Kin st ws → Kin (stateOf ws) after → Kin st after
-kin-trans st ws after a b =
+pub crew-trans : (st : State) (ws after : List ℕ) → SameCrewList st ws → SameCrewList (stateOf ws) after → SameCrewList st after
+crew-trans st ws after a b =
     b ∙ ap (λ (x : State). standingNow x (stateOf after .standing)) a ∙ now-now st (stateOf ws .standing) (stateOf after .standing)
 
-pub kin-roles : (st : State) (ws : List ℕ) → Kin st ws → rolesOf (stateOf ws) ≡ rolesOf st
-kin-roles st ws a = ap rolesOf a ∙ roles-now st (stateOf ws .standing)
+pub crew-roles : (st : State) (ws : List ℕ) → SameCrewList st ws → rolesOf (stateOf ws) ≡ rolesOf st
+crew-roles st ws a = ap rolesOf a ∙ roles-now st (stateOf ws .standing)
 
 -- and the record is built afresh from it
-pub kin-built : (st : State) (ws index seniors : List ℕ) → Ready (stateOf ws) ws index seniors → Kin st ws → ws ≡ built (standingNow st (stateOf ws .standing))
-kin-built st ws index seniors ready k = ready .afresh ∙ ap built k
+pub crew-built : (st : State) (ws index seniors : List ℕ) → Ready (stateOf ws) ws index seniors → SameCrewList st ws → ws ≡ built (standingNow st (stateOf ws .standing))
+crew-built st ws index seniors ready k = ready .afresh ∙ ap built k
 
 -- the number of roles in word 2 stays
-pub kin-count : (ws index seniors after index' seniors' : List ℕ) → Ready (stateOf ws) ws index seniors → Ready (stateOf after) after index' seniors' → Kin (stateOf ws) after
+pub crew-count : (ws index seniors after index' seniors' : List ℕ) → Ready (stateOf ws) ws index seniors → Ready (stateOf after) after index' seniors' → SameCrewList (stateOf ws) after
     → getD after 2 0 ≡ getD ws 2 0
-kin-count ws index seniors after index' seniors' a b k =
-    sym (roles-count after index' seniors' b) ∙ rw (kin-roles (stateOf ws) after k) (roles-count ws index seniors a)
+crew-count ws index seniors after index' seniors' a b k =
+    sym (roles-count after index' seniors' b) ∙ rw (crew-roles (stateOf ws) after k) (roles-count ws index seniors a)
 
 -- the progress goes on with the record and the seniors as they were
-pub going-back : (ws index seniors after seniors' : List ℕ) (g r : Progress) → Going ws index seniors g → after ≡ ws → seniors' ≡ seniors → r .counts ≡ g .counts
-    → Going after index seniors' r
-going-back ws index seniors after seniors' g r a e es ec = record { ready = rw (e, es) (a .ready); exact = rw (e, ec) (a .exact) }
+pub step-back : (ws index seniors after seniors' : List ℕ) (g r : Progress) → InStep ws index seniors g → after ≡ ws → seniors' ≡ seniors → r .counts ≡ g .counts
+    → InStep after index seniors' r
+step-back ws index seniors after seniors' g r a e es ec = record { ready = rw (e, es) (a .ready); exact = rw (e, ec) (a .exact) }
 
 -- ---- a change that is weighed before it is written
 
@@ -111,8 +111,8 @@ module _ (ws index seniors : List ℕ) (ready : Ready (stateOf ws) ws index seni
     pub trial-state : stateOf after ≡ standingNow (stateOf ws) S
     trial-state = ready-state (standingNow (stateOf ws) S) after index seniors' made
 
-    pub trial-going : (r : Progress) → r .counts ≡ q → Going after index seniors' r
-    trial-going r er =
+    pub trial-in-step : (r : Progress) → r .counts ≡ q → InStep after index seniors' r
+    trial-in-step r er =
         record {
           ready = ready-own (standingNow (stateOf ws) S) after index seniors' made;
           exact = ap countsIn er ∙ rw (trial-state, roles-now (stateOf ws) S, standing-now (stateOf ws) S) e;

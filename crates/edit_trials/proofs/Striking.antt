@@ -18,7 +18,7 @@ use Rattle.hierarchy.specs.Tables.{immediateSeniors}
 
 -- One side of the hierarchy of the standing set S. A role keeps direct those items of its set f that no role has to which it loses: permissions are
 -- lost to juniors, users to seniors, and the nearest of these are its immediate ones.
-pub record Side (ρ : Roles) (S k n : ℕ) (f : ℕ → ℕ) (loses : ℕ → ℕ → ℕ → Bool) (direct near : ℕ → ℕ → ℕ) : Type 0 where
+pub record LosingSide (ρ : Roles) (S k n : ℕ) (f : ℕ → ℕ) (loses : ℕ → ℕ → ℕ → Bool) (direct near : ℕ → ℕ → ℕ) : Type 0 where
   pub told : (R i p : ℕ) → So (has (direct R i) p)
       ↔ ((p < n) × So (has R i) × So (has (f i) p) × ((j : ℕ) → j < candidateCount ρ → So (loses R i j) → So (has (f j) p) → ⊥))
   pub other : (i j : ℕ) → So (loses (S ∖ single k) i j) ↔ (So (loses S i j) × (i ≢ k) × (j ≢ k))
@@ -30,7 +30,7 @@ pub record Side (ρ : Roles) (S k n : ℕ) (f : ℕ → ℕ) (loses : ℕ → �
   pub first : (i j : ℕ) → So (loses S i j) → (x : ℕ) × So (has (near S i) x) × ((x ≡ j) ⊎ So (loses S x j))
 
 -- a role that loses to k takes over what is direct with k, and is with none of its other nearest
-module _ (ρ : Roles) (S k n : ℕ) (f : ℕ → ℕ) (loses : ℕ → ℕ → ℕ → Bool) (direct near : ℕ → ℕ → ℕ) (side : Side ρ S k n f loses direct near) (o : Ordered ρ S)
+module _ (ρ : Roles) (S k n : ℕ) (f : ℕ → ℕ) (loses : ℕ → ℕ → ℕ → Bool) (direct near : ℕ → ℕ → ℕ) (side : LosingSide ρ S k n f loses direct near) (o : Ordered ρ S)
     (here : So (has S k)) (i : ℕ) (s : So (loses S i k)) where
   taken : (p : ℕ) → So (has (direct (S ∖ single k) i ∩ f k) p)
       ↔ (So (has (direct S k) p) × ((x : ℕ) → So (has (near S i ∖ single k) x) → So (has (f x) p) → ⊥))
@@ -98,7 +98,7 @@ module _ (ρ : Roles) (S : ℕ) (o : Ordered ρ S) where
     )
 
     -- the two sides
-    upper-side : Side ρ S k (ρ .permissions) (permissionSet ρ) (senior ρ) (directPermissions ρ) (immediateJuniors ρ)
+    upper-side : LosingSide ρ S k (ρ .permissions) (permissionSet ρ) (senior ρ) (directPermissions ρ) (immediateJuniors ρ)
     upper-side =
         record {
           told = permission-iff ρ;
@@ -111,7 +111,7 @@ module _ (ρ : Roles) (S : ℕ) (o : Ordered ρ S) where
           first = λ i j h. let w = first (senior-chain ρ S o i j h) in (w .0, junior-in i (w .0) (w .1), w .2);
         }
 
-    lower-side : Side ρ S k (ρ .users) (authorisedUsers ρ) (λ R i j. senior ρ R j i) (directMembers ρ) (immediateSeniors ρ)
+    lower-side : LosingSide ρ S k (ρ .users) (authorisedUsers ρ) (λ R i j. senior ρ R j i) (directMembers ρ) (immediateSeniors ρ)
     lower-side =
         record {
           told = member-iff ρ;

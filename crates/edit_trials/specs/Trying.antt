@@ -23,6 +23,7 @@ use Rattle.quality.specs.declared.counts.Counts.{Counts}
 use Rattle.quality.specs.Numbers.{countsIn}
 use Rattle.edit_trials.specs.declared.progress.Progress.{Progress}
 use Rattle.edit_trials.specs.declared.trial.Trial.{Trial}
+use Rattle.tables.specs.Tables.{table128Length, table256Length}
 
 -- ---- sums over some of the roles
 
@@ -57,9 +58,9 @@ unfoldable pub lostAt : List ℕ → List ℕ → ℕ → ℕ → ℕ → model.
 lostAt ws index k s t =
     record {
       roles = 0;
-      members = shared 2 (take 256 (drop membersStart ws)) (setAt 2 index (usersStart + 2 * k)) t;
-      permissions = shared 4 (take 512 (drop permissionsStart ws)) (setAt 4 ws (setsStart + 4 * k)) s;
-      links = shared 2 (take 256 (drop juniorsStart ws)) t s;
+      members = shared 2 (take table128Length (drop membersStart ws)) (setAt 2 index (usersStart + 2 * k)) t;
+      permissions = shared 4 (take table256Length (drop permissionsStart ws)) (setAt 4 ws (setsStart + 4 * k)) s;
+      links = shared 2 (take table128Length (drop juniorsStart ws)) t s;
     }
 
 -- what they would take over if role k were struck
@@ -67,9 +68,9 @@ unfoldable pub takenAt : List ℕ → List ℕ → List ℕ → ℕ → ℕ → 
 takenAt ws index seniors k s t =
     record {
       roles = 0;
-      members = takenOver 2 (take 256 (drop usersStart index)) (setAt 2 ws (membersStart + 2 * k)) seniors k t;
-      permissions = takenOver 4 (take 512 (drop setsStart ws)) (setAt 4 ws (permissionsStart + 4 * k)) (take 256 (drop juniorsStart ws)) k s;
-      links = takenOver 2 (take 256 (drop lowerStart index)) t (take 256 (drop juniorsStart ws)) k s;
+      members = takenOver 2 (take table128Length (drop usersStart index)) (setAt 2 ws (membersStart + 2 * k)) seniors k t;
+      permissions = takenOver 4 (take table256Length (drop setsStart ws)) (setAt 4 ws (permissionsStart + 4 * k)) (take table128Length (drop juniorsStart ws)) k s;
+      links = takenOver 2 (take table128Length (drop lowerStart index)) t (take table128Length (drop juniorsStart ws)) k s;
     }
 
 -- none of the first counts is above the second
@@ -111,10 +112,10 @@ runAt ws g worklist =
     record { standing = stateOf ws .standing; worklist = worklist; reference = g .quality; changed = g .changed; examined = g .examined }
 
 -- the record is one of the state's crew list, with another standing set
-abbrev pub Kin : State → List ℕ → Type 0
-Kin st ws = stateOf ws ≡ standingNow st (stateOf ws .standing)
+abbrev pub SameCrewList : State → List ℕ → Type 0
+SameCrewList st ws = stateOf ws ≡ standingNow st (stateOf ws .standing)
 
 -- a record with its index and its immediate seniors, and the progress with its counts
-pub record Going (ws index seniors : List ℕ) (g : Progress) : Type 0 where
+pub record InStep (ws index seniors : List ℕ) (g : Progress) : Type 0 where
   pub ready : Ready (stateOf ws) ws index seniors
   pub exact : Exact ws (g .counts)

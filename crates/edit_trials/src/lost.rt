@@ -5,8 +5,9 @@ ghost use lib.ListN.{length};
 ghost use Rattle.sets.specs.Held.{set128, set256};
 ghost use Rattle.model.specs.Record.{recordLength};
 ghost use Rattle.indexes.specs.Index.{indexLength};
-ghost use Rattle.quality.specs.Numbers.{countsIn};
+ghost use Rattle.quality.specs.Numbers.{countsIn, mostDirectMembers, mostDirectPermissions};
 ghost use Rattle.edit_trials.specs.Trying.{shared, lostAt};
+ghost use Rattle.tables.specs.Tables.{table128Length, table256Length};
 use hierarchy::lowest_item;
 use indexes::USERS;
 use quality::Counts;
@@ -22,8 +23,8 @@ use tables::load256;
 
 // How many items the sets of these roles share with `own`.
 fn shared128(table: &[u64], own: Set128, roles: Set128) -> usize
-    requires { ⌜ length (now table) ≡ 256 ⌝ }
-    ensures { λ r. ⌜ r ≤ 16384 ⌝ }
+    requires { ⌜ length (now table) ≡ table128Length ⌝ }
+    ensures { λ r. ⌜ r ≤ mostDirectMembers ⌝ }
     ensures { λ r. ⌜ r ≡ shared 2 (now (table .entry)) (set128 own) (set128 roles) ⌝ }
 {
     let mut sum = 0;
@@ -37,8 +38,8 @@ fn shared128(table: &[u64], own: Set128, roles: Set128) -> usize
 }
 
 fn shared256(table: &[u64], own: Set256, roles: Set128) -> usize
-    requires { ⌜ length (now table) ≡ 512 ⌝ }
-    ensures { λ r. ⌜ r ≤ 32768 ⌝ }
+    requires { ⌜ length (now table) ≡ table256Length ⌝ }
+    ensures { λ r. ⌜ r ≤ mostDirectPermissions ⌝ }
     ensures { λ r. ⌜ r ≡ shared 4 (now (table .entry)) (set256 own) (set128 roles) ⌝ }
 {
     let mut sum = 0;

@@ -7,7 +7,7 @@ ghost use Rattle.sets.specs.Sets.{_∪_, single};
 ghost use Rattle.model.specs.Hierarchy.{Roles, candidateCount, permissionSet};
 ghost use Rattle.model.specs.Record.{recordLength, setsStart, stateOf};
 ghost use Rattle.model.specs.State.{rolesOf};
-ghost use Rattle.tables.specs.Tables.{Holds};
+ghost use Rattle.tables.specs.Tables.{HoldsSets, table256Length};
 ghost use Rattle.hierarchy.specs.Tables.{Numbered, Narrow};
 ghost use Rattle.indexes.specs.Index.{indexLength, RoleUsers};
 ghost use Rattle.edit_rows.specs.Neighbours.{Neighbours};
@@ -45,7 +45,7 @@ fn gained(
     requires { ⌜ length (now index) ≡ indexLength ⌝ }
     requires { ⌜ k < 128 ⌝ }
     ensures { λ r. ⌜ Few r ⌝ }
-    ensures { λ r. ⌜ ((ρ : Roles) → Numbered ρ → Narrow ρ → Holds 4 (candidateCount ρ) (permissionSet ρ) (take 512 (drop setsStart (now (rec .entry)))) → RoleUsers ρ (now (index .entry)) → set128 standing < 2 ^ candidateCount ρ → Neighbours ρ (set128 standing) k (set128 above) (set128 below) → countsIn r ≡ countedIn ρ (set128 standing) k) ⌝ }
+    ensures { λ r. ⌜ ((ρ : Roles) → Numbered ρ → Narrow ρ → HoldsSets 4 (candidateCount ρ) (permissionSet ρ) (take table256Length (drop setsStart (now (rec .entry)))) → RoleUsers ρ (now (index .entry)) → set128 standing < 2 ^ candidateCount ρ → Neighbours ρ (set128 standing) k (set128 above) (set128 below) → countsIn r ≡ countedIn ρ (set128 standing) k) ⌝ }
 {
     let members = members_of(&index[USERS..HOLDERS], above, standing, k);
     let permissions = permissions_of(&rec[SETS..PERMISSIONS], below, standing, k);

@@ -9,6 +9,7 @@ ghost use Rattle.model.specs.State.{rolesOf};
 ghost use Rattle.indexes.specs.Index.{indexLength};
 ghost use Rattle.rows.specs.Linked.{Ready};
 ghost use Rattle.edit_trials.specs.Trying.{Exact, Tried};
+ghost use Rattle.tables.specs.Tables.{table128Length};
 use crate::count::corrected;
 use crate::count::role_counts;
 use crate::taken::taken;
@@ -28,7 +29,7 @@ pub fn if_struck(rec: &[u64], index: &[u64], seniors: &[u64], q: Counts, k: usiz
     requires { ⌜ k < 128 ⌝ }
     requires { ⌜ length (now rec) ≡ recordLength ⌝ }
     requires { ⌜ length (now index) ≡ indexLength ⌝ }
-    requires { ⌜ length (now seniors) ≡ 256 ⌝ }
+    requires { ⌜ length (now seniors) ≡ table128Length ⌝ }
     ensures { λ r. ⌜ Tried (rolesOf (stateOf (now (rec .entry)))) (stateOf (now (rec .entry)) .standing) (stateOf (now (rec .entry)) .standing ∖ single k) k r ⌝ }
 {
     let above = load128(seniors, 2 * k);

@@ -5,8 +5,9 @@ ghost use lib.ListN.{length};
 ghost use Rattle.sets.specs.Held.{set128, set256};
 ghost use Rattle.model.specs.Record.{recordLength};
 ghost use Rattle.indexes.specs.Index.{indexLength};
-ghost use Rattle.quality.specs.Numbers.{countsIn, Few};
+ghost use Rattle.quality.specs.Numbers.{countsIn, Few, mostDirectMembers, mostDirectPermissions};
 ghost use Rattle.edit_trials.specs.Trying.{takenOver, takenAt};
+ghost use Rattle.tables.specs.Tables.{table128Length, table256Length};
 use hierarchy::less128;
 use hierarchy::less256;
 use hierarchy::lowest_item;
@@ -27,9 +28,9 @@ use tables::load256;
 
 // How many items of `own` these roles would take over: each those that none of its neighbours but k has in the table.
 fn taken_over128(table: &[u64], own: Set128, near: &[u64], k: usize, roles: Set128) -> usize
-    requires { ⌜ length (now table) ≡ 256 ⌝ }
-    requires { ⌜ length (now near) ≡ 256 ⌝ }
-    ensures { λ r. ⌜ r ≤ 16384 ⌝ }
+    requires { ⌜ length (now table) ≡ table128Length ⌝ }
+    requires { ⌜ length (now near) ≡ table128Length ⌝ }
+    ensures { λ r. ⌜ r ≤ mostDirectMembers ⌝ }
     ensures { λ r. ⌜ r ≡ takenOver 2 (now (table .entry)) (set128 own) (now (near .entry)) k (set128 roles) ⌝ }
 {
     if own.is_empty() {
@@ -47,9 +48,9 @@ fn taken_over128(table: &[u64], own: Set128, near: &[u64], k: usize, roles: Set1
 }
 
 fn taken_over256(table: &[u64], own: Set256, near: &[u64], k: usize, roles: Set128) -> usize
-    requires { ⌜ length (now table) ≡ 512 ⌝ }
-    requires { ⌜ length (now near) ≡ 256 ⌝ }
-    ensures { λ r. ⌜ r ≤ 32768 ⌝ }
+    requires { ⌜ length (now table) ≡ table256Length ⌝ }
+    requires { ⌜ length (now near) ≡ table128Length ⌝ }
+    ensures { λ r. ⌜ r ≤ mostDirectPermissions ⌝ }
     ensures { λ r. ⌜ r ≡ takenOver 4 (now (table .entry)) (set256 own) (now (near .entry)) k (set128 roles) ⌝ }
 {
     if own.is_empty() {
@@ -77,7 +78,7 @@ pub fn taken(
 ) -> Counts
     requires { ⌜ length (now rec) ≡ recordLength ⌝ }
     requires { ⌜ length (now index) ≡ indexLength ⌝ }
-    requires { ⌜ length (now seniors) ≡ 256 ⌝ }
+    requires { ⌜ length (now seniors) ≡ table128Length ⌝ }
     requires { ⌜ k < 128 ⌝ }
     ensures { λ r. ⌜ Few r ⌝ }
     ensures { λ r. ⌜ countsIn r ≡ takenAt (now (rec .entry)) (now (index .entry)) (now (seniors .entry)) k (set128 above) (set128 below) ⌝ }

@@ -17,7 +17,7 @@ use Rattle.model.specs.Indexes.{lower, maximal}
 use Rattle.model.proofs.Reading.{Ordered, user-iff, junior-iff, permission-iff}
 use Rattle.model.proofs.Building.{stands-below}
 use Rattle.model.proofs.Shortcuts.{juniors-maximal, permission-immediate, member-immediate}
-use Rattle.tables.specs.Tables.{Holds}
+use Rattle.tables.specs.Tables.{HoldsSets}
 use Rattle.hierarchy.specs.Tables.{Numbered, Narrow, lessAll, immediateSeniors}
 use Rattle.hierarchy.proofs.Sieving.{lessAll-iff}
 
@@ -33,7 +33,7 @@ stands t R k e h = sym e ∙ not-false t h
 
 -- ---- juniors
 
-pub juniors-found : (ρ : Roles) (R k x s r : ℕ) (index : List ℕ) → Numbered ρ → Holds 2 (candidateCount ρ) (lower ρ) index → R < 2 ^ candidateCount ρ → So (has R k)
+pub juniors-found : (ρ : Roles) (R k x s r : ℕ) (index : List ℕ) → Numbered ρ → HoldsSets 2 (candidateCount ρ) (lower ρ) index → R < 2 ^ candidateCount ρ → So (has R k)
     → x ≡ setAt 2 index (2 * k) → s ≡ x ∩ R → (s < 2 ^ candidateCount ρ → r ≡ maximal ρ s) → r ≡ immediateJuniors ρ R k
 juniors-found ρ R k x s r index n h b t ex es m =
     let o = ordered ρ R n b in
@@ -42,7 +42,7 @@ juniors-found ρ R k x s r index n h b t ex es m =
 
 -- ---- permissions
 
-pub permissions-found : (ρ : Roles) (R k x js : ℕ) (table : List ℕ) → Numbered ρ → Narrow ρ → Holds 4 (candidateCount ρ) (permissionSet ρ) table
+pub permissions-found : (ρ : Roles) (R k x js : ℕ) (table : List ℕ) → Numbered ρ → Narrow ρ → HoldsSets 4 (candidateCount ρ) (permissionSet ρ) table
     → R < 2 ^ candidateCount ρ → So (has R k) → x ≡ setAt 4 table (4 * k) → js ≡ immediateJuniors ρ R k
     → lessAll 4 table x js ≡ directPermissions ρ R k
 permissions-found ρ R k x js table n w h b t ex ej =
@@ -73,7 +73,7 @@ permissions-found ρ R k x js table n w h b t ex ej =
 
 -- ---- members
 
-pub members-found : (ρ : Roles) (R k x is : ℕ) (users : List ℕ) → Numbered ρ → Narrow ρ → Holds 2 (candidateCount ρ) (authorisedUsers ρ) users
+pub members-found : (ρ : Roles) (R k x is : ℕ) (users : List ℕ) → Numbered ρ → Narrow ρ → HoldsSets 2 (candidateCount ρ) (authorisedUsers ρ) users
     → R < 2 ^ candidateCount ρ → So (has R k) → x ≡ setAt 2 users (2 * k) → is ≡ immediateSeniors ρ R k
     → lessAll 2 users x is ≡ directMembers ρ R k
 members-found ρ R k x is users n w h b t ex ei =

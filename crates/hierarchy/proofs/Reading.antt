@@ -12,12 +12,12 @@ use Rattle.model.specs.Record.{setsStart, permissionsStart, membersStart, junio
 use Rattle.model.specs.State.{State, rolesOf}
 use Rattle.model.proofs.Lists.{setAt-words}
 use Rattle.model.proofs.Record.{built-word, read-set, word-permissions, word-members, word-juniors, permissions-small, members-small, juniors-small}
-use Rattle.tables.specs.Tables.{Holds}
+use Rattle.tables.specs.Tables.{HoldsSets}
 use Rattle.tables.proofs.Parts.{setAt-part}
 use Rattle.hierarchy.specs.Tables.{Narrow}
 
 -- the sets of all candidates, as a table
-pub read-sets : (st : State) → Limits st → Narrow (rolesOf st) → Holds 4 (candidateCount (rolesOf st)) (permissionSet (rolesOf st)) (take 512 (drop setsStart (built st)))
+pub read-sets : (st : State) → Limits st → Narrow (rolesOf st) → HoldsSets 4 (candidateCount (rolesOf st)) (permissionSet (rolesOf st)) (take 512 (drop setsStart (built st)))
 read-sets st lim w k l =
     let few = lim .candidates-most in
     setAt-part 4 setsStart 512 (built st) (4 * k) (omega arith) ∙ read-set st lim k (omega arith) (lt-of-lt-of-le (w .inside k l) (pow-mono (w .fewPermissions)))

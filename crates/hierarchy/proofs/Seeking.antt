@@ -18,7 +18,7 @@ use Rattle.model.specs.Indexes.{lower}
 use Rattle.model.proofs.Reading.{senior-iff, immediate-iff, junior-iff}
 use Rattle.model.proofs.Building.{stands-below}
 use Rattle.model.proofs.Shortcuts.{lower-iff}
-use Rattle.tables.specs.Tables.{Holds}
+use Rattle.tables.specs.Tables.{HoldsSets}
 use Rattle.hierarchy.specs.Tables.{Numbered, Lowest, immediateSeniors}
 use Rattle.hierarchy.proofs.Building.{ordered}
 
@@ -36,7 +36,7 @@ pub record Sorted (ρ : Roles) (R k found rest : ℕ) : Type 0 where
 -- the same of whatever roles the index is of
 abbrev pub Sought : List ℕ → ℕ → ℕ → ℕ → ℕ → Type 0
 Sought low R k found rest =
-    (ρ : Roles) → Numbered ρ → Holds 2 (candidateCount ρ) (lower ρ) low → R < 2 ^ candidateCount ρ → Sorted ρ R k found rest
+    (ρ : Roles) → Numbered ρ → HoldsSets 2 (candidateCount ρ) (lower ρ) low → R < 2 ^ candidateCount ρ → Sorted ρ R k found rest
 
 -- and of whatever standing set has k in it, and has these roles at k and above
 abbrev pub Seeking : List ℕ → ℕ → ℕ → ℕ → ℕ → Type 0
@@ -173,7 +173,7 @@ module _ (ρ : Roles) (n : Numbered ρ) (R : ℕ) (b : R < 2 ^ candidateCount ρ
 
 module _ (low : List ℕ) (R k : ℕ) where
   pub sought-absent : (r : ℕ) → has R k ≡ false → r ≡ 0
-      → (ρ : Roles) → Numbered ρ → Holds 2 (candidateCount ρ) (lower ρ) low → R < 2 ^ candidateCount ρ
+      → (ρ : Roles) → Numbered ρ → HoldsSets 2 (candidateCount ρ) (lower ρ) low → R < 2 ^ candidateCount ρ
       → r ≡ immediateSeniors ρ R k
   sought-absent r h e ρ n l b = e ∙ sym (none-above ρ n R b k h)
 
@@ -200,6 +200,6 @@ module _ (low : List ℕ) (R k : ℕ) where
         (λ x e. So-not t (both .1 (rw d x, eqb-iff (under ∩ found) 0 .1 (rw d e))))))
 
     pub sought-all : (found rest : ℕ) → Sought low R k found rest → rest ≡ 0
-        → (ρ : Roles) → Numbered ρ → Holds 2 (candidateCount ρ) (lower ρ) low → R < 2 ^ candidateCount ρ
+        → (ρ : Roles) → Numbered ρ → HoldsSets 2 (candidateCount ρ) (lower ρ) low → R < 2 ^ candidateCount ρ
         → found ≡ immediateSeniors ρ R k
     sought-all found rest inv e ρ n l b = sorted-all ρ n R b k hk found rest (inv ρ n l b) e

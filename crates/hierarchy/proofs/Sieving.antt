@@ -19,7 +19,7 @@ use Rattle.model.specs.Lists.{setAt}
 use Rattle.model.specs.Hierarchy.{Roles, candidateCount}
 use Rattle.model.specs.Indexes.{lower, maximal}
 use Rattle.model.proofs.Shortcuts.{maximal-iff, maximal-highest}
-use Rattle.tables.specs.Tables.{Holds}
+use Rattle.tables.specs.Tables.{HoldsSets}
 use Rattle.hierarchy.specs.Tables.{Numbered, lessAll, Highest}
 
 pub lessAll-iff : (w : ℕ) (ws : List ℕ) (s js p : ℕ)
@@ -114,7 +114,7 @@ is-empty t s e f = eqb-iff s 0 .0 (sym e ∙ not-false t f)
 -- what is found of the maximal roles of s, and what is left to look at
 abbrev pub Sieved : List ℕ → ℕ → ℕ → ℕ → Type 0
 Sieved index s found rest =
-    (ρ : Roles) → Numbered ρ → Holds 2 (candidateCount ρ) (lower ρ) index → s < 2 ^ candidateCount ρ
+    (ρ : Roles) → Numbered ρ → HoldsSets 2 (candidateCount ρ) (lower ρ) index → s < 2 ^ candidateCount ρ
     → (rest < 2 ^ candidateCount ρ) × (maximal ρ s ≡ found ∪ maximal ρ rest)
 
 pub sieved-start : (index : List ℕ) (s found : ℕ) → found ≡ 0 → Sieved index s found s
@@ -134,6 +134,6 @@ sieved-more index s found rest k found' x mid rest' inv top ef ex em er ρ n h b
     )
 
 pub sieved-all : (index : List ℕ) (s found rest : ℕ) → Sieved index s found rest → rest ≡ 0
-    → (ρ : Roles) → Numbered ρ → Holds 2 (candidateCount ρ) (lower ρ) index → s < 2 ^ candidateCount ρ → found ≡ maximal ρ s
+    → (ρ : Roles) → Numbered ρ → HoldsSets 2 (candidateCount ρ) (lower ρ) index → s < 2 ^ candidateCount ρ → found ≡ maximal ρ s
 sieved-all index s found rest inv e ρ n h b =
     sym (inv ρ n h b .1 ∙ ap (λ (x : ℕ). found ∪ x) (maximal-none ρ rest e) ∙ ∪-zero found)

@@ -8,7 +8,7 @@ ghost use Rattle.sets.specs.Sets.{has, _∩_, _∪_, single};
 ghost use Rattle.sets.specs.Truth.{_and_, if_then_else_};
 ghost use Rattle.model.specs.Hierarchy.{Roles, candidateCount};
 ghost use Rattle.model.specs.Indexes.{lower};
-ghost use Rattle.tables.specs.Tables.{Holds};
+ghost use Rattle.tables.specs.Tables.{HoldsSets, table128Length};
 ghost use Rattle.hierarchy.specs.Tables.{Numbered, immediateSeniors};
 use crate::items::lowest_item;
 use sets::Set128;
@@ -28,8 +28,8 @@ fn with_senior(found: Set128, i: usize, below: Set128, k: usize) -> Set128
 // The lowest ones of the standing roles above k. A role below another has a lower number, so that from the lowest number up each role
 // has only to be held against those that were found before it.
 pub fn seniors_of(low: &[u64], standing: Set128, k: usize) -> Set128
-    requires { ⌜ length (now low) ≡ 256 ⌝ }
-    ensures { λ r. ⌜ ((ρ : Roles) → Numbered ρ → Holds 2 (candidateCount ρ) (lower ρ) (now (low .entry)) → set128 standing < 2 ^ candidateCount ρ → set128 r ≡ immediateSeniors ρ (set128 standing) k) ⌝ }
+    requires { ⌜ length (now low) ≡ table128Length ⌝ }
+    ensures { λ r. ⌜ ((ρ : Roles) → Numbered ρ → HoldsSets 2 (candidateCount ρ) (lower ρ) (now (low .entry)) → set128 standing < 2 ^ candidateCount ρ → set128 r ≡ immediateSeniors ρ (set128 standing) k) ⌝ }
 {
     if !standing.contains(k) {
         return Set128::empty();

@@ -5,7 +5,7 @@ ghost use lib.ListN.{length};
 ghost use Rattle.sets.specs.Held.{set128, set256};
 ghost use Rattle.model.specs.Hierarchy.{Roles, candidateCount};
 ghost use Rattle.model.specs.Indexes.{lower, maximal};
-ghost use Rattle.tables.specs.Tables.{Holds};
+ghost use Rattle.tables.specs.Tables.{HoldsSets, table128Length, table256Length};
 ghost use Rattle.hierarchy.specs.Tables.{Numbered, lessAll};
 use crate::items::highest_item;
 use crate::items::lowest_item;
@@ -16,7 +16,7 @@ use tables::load256;
 
 // s less the sets of the roles js.
 pub fn less256(table: &[u64], s: Set256, js: Set128) -> Set256
-    requires { ⌜ length (now table) ≡ 512 ⌝ }
+    requires { ⌜ length (now table) ≡ table256Length ⌝ }
     ensures { λ r. ⌜ set256 r ≡ lessAll 4 (now (table .entry)) (set256 s) (set128 js) ⌝ }
 {
     let mut left = s;
@@ -30,7 +30,7 @@ pub fn less256(table: &[u64], s: Set256, js: Set128) -> Set256
 }
 
 pub fn less128(table: &[u64], s: Set128, js: Set128) -> Set128
-    requires { ⌜ length (now table) ≡ 256 ⌝ }
+    requires { ⌜ length (now table) ≡ table128Length ⌝ }
     ensures { λ r. ⌜ set128 r ≡ lessAll 2 (now (table .entry)) (set128 s) (set128 js) ⌝ }
 {
     let mut left = s;
@@ -45,8 +45,8 @@ pub fn less128(table: &[u64], s: Set128, js: Set128) -> Set128
 
 // The roles of s that lie below no other of s: the highest is one of them, and what lies below it is none.
 pub fn maximal_of(index: &[u64], s: Set128) -> Set128
-    requires { ⌜ length (now index) ≡ 256 ⌝ }
-    ensures { λ r. ⌜ ((ρ : Roles) → Numbered ρ → Holds 2 (candidateCount ρ) (lower ρ) (now (index .entry)) → set128 s < 2 ^ candidateCount ρ → set128 r ≡ maximal ρ (set128 s)) ⌝ }
+    requires { ⌜ length (now index) ≡ table128Length ⌝ }
+    ensures { λ r. ⌜ ((ρ : Roles) → Numbered ρ → HoldsSets 2 (candidateCount ρ) (lower ρ) (now (index .entry)) → set128 s < 2 ^ candidateCount ρ → set128 r ≡ maximal ρ (set128 s)) ⌝ }
 {
     let mut found = Set128::empty();
     let mut rest = s;

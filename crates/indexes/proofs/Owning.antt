@@ -25,7 +25,7 @@ use Rattle.model.proofs.Shortcuts.{lower-iff, rolesOfUser-iff}
 use Rattle.model.proofs.Intervals.{shared-lower, someone}
 use Rattle.stores.specs.Stores.{putAt}
 use Rattle.tables.specs.Stores.{wordsOf}
-use Rattle.tables.specs.Tables.{Holds}
+use Rattle.tables.specs.Tables.{HoldsSets}
 use Rattle.tables.proofs.Stores.{stored-back}
 use Rattle.tables.proofs.Tables.{beside, HeldBut}
 use Rattle.indexes.specs.Tables.{Source, Owned, sharedBy}
@@ -129,7 +129,7 @@ sharing-end ws us left rest h e =
 -- ---- the roles below a role
 
 module _ (st : State) (lim : Limits st) (low roles users : List ℕ) (known some : ℕ) (h : Owned st (st .users) low known some)
-    (hr : Holds 2 (st .users) (rolesOfUser (rolesOf st)) roles) (k : ℕ) (lk : k < candidateCount (rolesOf st)) (e : setAt 2 users (2 * k) ≡ authorisedUsers (rolesOf st) k) where
+    (hr : HoldsSets 2 (st .users) (rolesOfUser (rolesOf st)) roles) (k : ℕ) (lk : k < candidateCount (rolesOf st)) (e : setAt 2 users (2 * k) ≡ authorisedUsers (rolesOf st) k) where
   -- each user of the role has the row of one that is asked
   speaks : (u : ℕ) → So (has (authorisedUsers (rolesOf st) k) u) → (v : ℕ) × So (has some v) × (getD (st .rows) v 0 ≡ getD (st .rows) u 0) × (v < st .users)
   unfolding rolesOf

@@ -27,7 +27,7 @@ use Rattle.model.proofs.Lists.{length-rowsAt, getD-rowsAt, setAt-words}
 use Rattle.model.proofs.Reading.{user-iff}
 use Rattle.model.specs.Record.{Limits}
 use Rattle.model.proofs.Shortcuts.{lower-iff, rolesOfUser-iff, user-own, user-none}
-use Rattle.tables.specs.Tables.{Holds}
+use Rattle.tables.specs.Tables.{HoldsSets}
 use Rattle.hierarchy.specs.Tables.{Numbered, Narrow}
 use Rattle.tables.specs.Search.{Between}
 use Rattle.stores.specs.Stores.{putAt}
@@ -70,7 +70,7 @@ module _ (st : State) (crew : List ℕ) (at n : ℕ) (table : List ℕ) (c : ℕ
       let e : 0 + 4 * k ≡ 4 * k = omega arith in
       sym (ap (λ (xs : List ℕ). getD xs k 0) (src .sets) ∙ getD-rowsAt c table 0 k l ∙ ap (setAt 4 table) e)
 
-  pub source-sets : Holds 4 (candidateCount (rolesOf st)) (permissionSet (rolesOf st)) table
+  pub source-sets : HoldsSets 4 (candidateCount (rolesOf st)) (permissionSet (rolesOf st)) table
   source-sets k l = source-set k (rw source-count at l)
 
   pub source-row : (u : ℕ) → u < n → setAt 4 crew (at + 4 * u) ≡ getD (st .rows) u 0
@@ -140,7 +140,7 @@ module _ (st : State) (crew : List ℕ) (at n : ℕ) (table : List ℕ) (c : ℕ
       (b, rw (source-set j lj, source-set k lk) (proper-iff (permissionSet ρ j) (permissionSet ρ k) .0 (a .1) .0)))
 
   -- the users of a role are a column of the roles of the users
-  users-found : (roles : List ℕ) → Holds 2 n (rolesOfUser (rolesOf st)) roles → (k : ℕ) → k < c
+  users-found : (roles : List ℕ) → HoldsSets 2 n (rolesOfUser (rolesOf st)) roles → (k : ℕ) → k < c
       → collect n (λ u. has (setAt 2 roles (2 * u)) k) ≡ authorisedUsers (rolesOf st) k
   unfolding rolesOf
   users-found roles h k lk =
@@ -153,12 +153,12 @@ module _ (st : State) (crew : List ℕ) (at n : ℕ) (table : List ℕ) (c : ℕ
       let lu : u < n = rw (src .users) at (user-iff ρ k u .0 t .0) in
       collect-iff n (λ u. has (setAt 2 roles (2 * u)) k) u .1 (lu, rw (h u lu) (rolesOfUser-iff ρ u k .1 (rw source-count lk, t))))
 
-  pub users-held : (roles users : List ℕ) → Holds 2 n (rolesOfUser (rolesOf st)) roles → Holds 2 c (λ k. collect n (λ u. has (setAt 2 roles (2 * u)) k)) users
-      → Holds 2 c (authorisedUsers (rolesOf st)) users
+  pub users-held : (roles users : List ℕ) → HoldsSets 2 n (rolesOfUser (rolesOf st)) roles → HoldsSets 2 c (λ k. collect n (λ u. has (setAt 2 roles (2 * u)) k)) users
+      → HoldsSets 2 c (authorisedUsers (rolesOf st)) users
   users-held roles users hr hu k l = hu k l ∙ users-found roles hr k l
 
-  pub tabled : (low roles users : List ℕ) → Holds 2 c (lower (rolesOf st)) low → Holds 2 n (rolesOfUser (rolesOf st)) roles
-      → Holds 2 c (authorisedUsers (rolesOf st)) users → Tabled (rolesOf st) low roles users
+  pub tabled : (low roles users : List ℕ) → HoldsSets 2 c (lower (rolesOf st)) low → HoldsSets 2 n (rolesOfUser (rolesOf st)) roles
+      → HoldsSets 2 c (authorisedUsers (rolesOf st)) users → Tabled (rolesOf st) low roles users
   unfolding rolesOf
   tabled low roles users hl hr hu =
       record {

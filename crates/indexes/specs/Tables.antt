@@ -14,7 +14,7 @@ use Rattle.model.specs.Hierarchy.{Roles, candidateCount, permissionSet, authori
 use Rattle.model.specs.Indexes.{lower, rolesOfUser}
 use Rattle.model.specs.State.{State, rolesOf}
 use Rattle.model.specs.Record.{Limits, recordLength, setsStart}
-use Rattle.tables.specs.Tables.{Holds}
+use Rattle.tables.specs.Tables.{HoldsSets, table256Length}
 
 -- a record whose header keeps the bounds and whose candidates grow; the rows that give members stand from place `at` on, in the record
 pub record FillsFrom (ws : List ℕ) (at : ℕ) : Type 0 where
@@ -22,7 +22,7 @@ pub record FillsFrom (ws : List ℕ) (at : ℕ) : Type 0 where
   pub inside : at + 4 * getD ws 0 0 ≤ recordLength
   pub few-users : getD ws 0 0 ≤ 128
   pub few-candidates : getD ws 2 0 ≤ 128
-  pub grows : Growing (rowsAt (getD ws 2 0) (take 512 (drop setsStart ws)) 0)
+  pub grows : Growing (rowsAt (getD ws 2 0) (take table256Length (drop setsStart ws)) 0)
 
 -- the state's crew rows are the n rows from place `at` on, and its candidates the c sets of the table
 pub record Source (st : State) (crew : List ℕ) (at n : ℕ) (table : List ℕ) (c : ℕ) : Type 0 where
@@ -33,7 +33,7 @@ pub record Source (st : State) (crew : List ℕ) (at n : ℕ) (table : List ℕ)
 
 -- the same of a record: n and c are its words 0 and 2, and the table is its region of candidates
 abbrev pub SourceOf : State → List ℕ → ℕ → Type 0
-SourceOf st ws at = Source st ws at (getD ws 0 0) (take 512 (drop setsStart ws)) (getD ws 2 0)
+SourceOf st ws at = Source st ws at (getD ws 0 0) (take table256Length (drop setsStart ws)) (getD ws 2 0)
 
 -- the own roles met among the first n users: `roles` are some users' rows, and have their lower candidates in `low`; `users` has such a user for
 -- each of them
@@ -53,6 +53,6 @@ pub record Zeros (n : ℕ) (ws : List ℕ) : Type 0 where
 
 -- the three tables that an index is made of
 pub record Tabled (ρ : Roles) (low roles users : List ℕ) : Type 0 where
-  pub lower-roles : Holds 2 (candidateCount ρ) (lower ρ) low
-  pub user-roles : Holds 2 (ρ .users) (rolesOfUser ρ) roles
-  pub role-users : Holds 2 (candidateCount ρ) (authorisedUsers ρ) users
+  pub lower-roles : HoldsSets 2 (candidateCount ρ) (lower ρ) low
+  pub user-roles : HoldsSets 2 (ρ .users) (rolesOfUser ρ) roles
+  pub role-users : HoldsSets 2 (candidateCount ρ) (authorisedUsers ρ) users

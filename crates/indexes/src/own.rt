@@ -12,7 +12,7 @@ ghost use Rattle.model.specs.Hierarchy.{permissionSet};
 ghost use Rattle.model.specs.Indexes.{rolesOfUser};
 ghost use Rattle.model.specs.State.{State, rolesOf};
 ghost use Rattle.model.specs.Candidates.{Growing};
-ghost use Rattle.tables.specs.Tables.{Filled};
+ghost use Rattle.tables.specs.Tables.{Filled, table128Length, table256Length};
 ghost use Rattle.indexes.specs.Tables.{Source, Owned};
 use hierarchy::lower_of;
 use sets::Set128;
@@ -30,14 +30,14 @@ pub struct Own {
 }
 
 // A user's roles, and the own roles with the user's among them.
-struct Turn {
+struct Learned {
     own: Own,
     roles: Set128,
 }
 
 // Learns that e is the own role of user u. The roles below it are looked for when it is met first.
 fn learn(table: &[u64], low: &mut [u64], own: Own, e: usize, u: usize) -> Own
-    requires { ⌜ (length (now table) ≡ 512) × (length (now low) ≡ 256) × (e < 128) × (u < 128) ⌝ }
+    requires { ⌜ (length (now table) ≡ table256Length) × (length (now low) ≡ table128Length) × (e < 128) × (u < 128) ⌝ }
     ensures { λ r. ⌜ ((st : State) (crew : List ℕ) (at n c i : ℕ) → Source st crew at n (now (table .entry)) c → e < c → u < n → permissionSet (rolesOf st) e ≡ getD (st .rows) u 0 → Owned st i (now (low .entry)) (set128 (own .roles)) (set128 (own .users)) → Owned st i (now (low .exit)) (set128 (r .roles)) (set128 (r .users)) × So (has (set128 (r .roles)) e)) ⌝ }
 {
     let roles = own.roles;
@@ -53,17 +53,17 @@ fn learn(table: &[u64], low: &mut [u64], own: Own, e: usize, u: usize) -> Own
 }
 
 // The roles of user u, whose row this is.
-fn own_roles(table: &[u64], c: usize, low: &mut [u64], own: Own, row: Set256, u: usize) -> Turn
-    requires { ⌜ (length (now table) ≡ 512) × (c ≤ 128) × Growing (rowsAt c (now table) 0) × (length (now low) ≡ 256) × (u < 128) ⌝ }
+fn own_roles(table: &[u64], c: usize, low: &mut [u64], own: Own, row: Set256, u: usize) -> Learned
+    requires { ⌜ (length (now table) ≡ table256Length) × (c ≤ 128) × Growing (rowsAt c (now table) 0) × (length (now low) ≡ table128Length) × (u < 128) ⌝ }
     ensures { λ r. ⌜ ((st : State) (crew : List ℕ) (at n : ℕ) → Source st crew at n (now (table .entry)) c → u < n → set256 row ≡ getD (st .rows) u 0 → Owned st u (now (low .entry)) (set128 (own .roles)) (set128 (own .users)) → Owned st (u + 1) (now (low .exit)) (set128 (r .own .roles)) (set128 (r .own .users)) × (set128 (r .roles) ≡ rolesOfUser (rolesOf st) u)) ⌝ }
 {
     let Found::At(e) = search(table, c, row) else {
         let roles = Set128::empty();
-        return Turn { own, roles };
+        return Learned { own, roles };
     };
     let own = learn(table, low, own, e, u);
     let roles = load128(low, 2 * e).insert(e);
-    Turn { own, roles }
+    Learned { own, roles }
 }
 
 // The roles of each of the n users whose rows stand in `crew` from place `at` on; and the own roles, with their entries in `low`.
@@ -76,7 +76,7 @@ pub fn fill_roles(
     low: &mut [u64],
     out: &mut [u64],
 ) -> Own
-    requires { ⌜ (at + 4 * n ≤ length (now crew)) × (n ≤ 128) × (length (now table) ≡ 512) × (length (now low) ≡ 256) × (c ≤ 128) × Growing (rowsAt c (now table) 0) × (length (now out) ≡ 256) ⌝ }
+    requires { ⌜ (at + 4 * n ≤ length (now crew)) × (n ≤ 128) × (length (now table) ≡ table256Length) × (length (now low) ≡ table128Length) × (c ≤ 128) × Growing (rowsAt c (now table) 0) × (length (now out) ≡ table128Length) ⌝ }
     ensures { λ r. ⌜ ((st : State) → Source st (now (crew .entry)) at n (now (table .entry)) c → Owned st n (now (low .exit)) (set128 (r .roles)) (set128 (r .users)) × Filled 2 n (rolesOfUser (rolesOf st)) (now (out .entry)) (now (out .exit))) ⌝ }
 {
     let mut own = Own {

@@ -8,7 +8,7 @@ ghost use Rattle.model.specs.Hierarchy.{candidateCount, authorisedUsers};
 ghost use Rattle.model.specs.Indexes.{lower, rolesOfUser};
 ghost use Rattle.model.specs.State.{State, rolesOf};
 ghost use Rattle.model.specs.Record.{Limits};
-ghost use Rattle.tables.specs.Tables.{Holds};
+ghost use Rattle.tables.specs.Tables.{HoldsSets, table128Length};
 ghost use Rattle.indexes.specs.Tables.{Owned, sharedBy};
 use crate::own::Own;
 use hierarchy::lowest_item;
@@ -18,7 +18,7 @@ use tables::store128;
 
 // The roles that all of these users have.
 fn shared(roles: &[u64], users: Set128) -> Set128
-    requires { ⌜ length (now roles) ≡ 256 ⌝ }
+    requires { ⌜ length (now roles) ≡ table128Length ⌝ }
     ensures { λ r. ⌜ set128 r ≡ sharedBy (now (roles .entry)) (set128 users) ⌝ }
 {
     let mut left = Set128::below(128);
@@ -33,8 +33,8 @@ fn shared(roles: &[u64], users: Set128) -> Set128
 
 // The entries of the roles that are nobody's row. One user for each row is asked.
 pub fn fill_shared(roles: &[u64], users: &[u64], own: Own, c: usize, low: &mut [u64])
-    requires { ⌜ (length (now roles) ≡ 256) × (length (now users) ≡ 256) × (length (now low) ≡ 256) × (c ≤ 128) ⌝ }
-    ensures { λ r. ⌜ ((st : State) → Limits st → candidateCount (rolesOf st) ≡ c → Holds 2 (st .users) (rolesOfUser (rolesOf st)) (now (roles .entry)) → Holds 2 c (authorisedUsers (rolesOf st)) (now (users .entry)) → Owned st (st .users) (now (low .entry)) (set128 (own .roles)) (set128 (own .users)) → Holds 2 c (lower (rolesOf st)) (now (low .exit))) ⌝ }
+    requires { ⌜ (length (now roles) ≡ table128Length) × (length (now users) ≡ table128Length) × (length (now low) ≡ table128Length) × (c ≤ 128) ⌝ }
+    ensures { λ r. ⌜ ((st : State) → Limits st → candidateCount (rolesOf st) ≡ c → HoldsSets 2 (st .users) (rolesOfUser (rolesOf st)) (now (roles .entry)) → HoldsSets 2 c (authorisedUsers (rolesOf st)) (now (users .entry)) → Owned st (st .users) (now (low .entry)) (set128 (own .roles)) (set128 (own .users)) → HoldsSets 2 c (lower (rolesOf st)) (now (low .exit))) ⌝ }
 {
     let known = own.roles;
     let some = own.users;

@@ -4,6 +4,7 @@ ghost use lib.ListN.{length};
 ghost use Rattle.model.specs.State.{State, rolesOf};
 ghost use Rattle.indexes.specs.Index.{indexLength, Indexed};
 ghost use Rattle.indexes.specs.Tables.{FillsFrom, SourceOf, Tabled};
+ghost use Rattle.tables.specs.Tables.{table128Length};
 use crate::layout::HOLDERS;
 use crate::layout::LOWER;
 use crate::layout::ROLES;
@@ -20,7 +21,7 @@ use tables::copy;
 // intersection with the roles of each row that contains it. For 128 roles that are all rows these are 8,128 tests.
 fn fill_tables(rec: &[u64], at: usize, low: &mut [u64], roles: &mut [u64], users: &mut [u64])
     requires { ⌜ FillsFrom (now rec) at ⌝ }
-    requires { ⌜ (length (now low) ≡ 256) × (length (now roles) ≡ 256) × (length (now users) ≡ 256) ⌝ }
+    requires { ⌜ (length (now low) ≡ table128Length) × (length (now roles) ≡ table128Length) × (length (now users) ≡ table128Length) ⌝ }
     ensures { λ r. ⌜ ((st : State) → SourceOf st (now (rec .entry)) at → Tabled (rolesOf st) (now (low .exit)) (now (roles .exit)) (now (users .exit))) ⌝ }
 {
     let n = rec[0] as usize;

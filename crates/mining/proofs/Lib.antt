@@ -3,4 +3,4 @@ pub mod Meeting
 pub mod Seeing
 pub mod Walking
 pub mod Written
-pub mod Persons
+pub mod Users

@@ -16,7 +16,7 @@ use Rattle.model.specs.Candidates.{place, addRow, Listed, Growing, Table}
 use Rattle.model.specs.Lists.{rowsAt}
 use Rattle.model.proofs.Growing.{Among, listed-at, among-length, among-equal, place-new, place-old, place-iff, place-growing}
 use Rattle.model.proofs.Candidates.{Met, add-empty, add-listed, add-growing, add-old, add-row, add-meet, add-is, added-zero, added-length, admit-place, addedTo}
-use Rattle.mining.specs.Mining.{Framed, Holds}
+use Rattle.mining.specs.Mining.{Framed, HoldsList}
 use Rattle.mining.proofs.Placing.{holds-equal}
 
 -- ---- a row's meets, as sets
@@ -159,10 +159,10 @@ module _ (r : ℕ) (xs : List ℕ) where
 -- ---- a row
 
 module _ {t : List ℕ} {n : ℕ} (r : ℕ) where
-  pub row-empty : Framed t n → r ≡ 0 → Holds t n (addRow r (rowsAt n t 0))
+  pub row-empty : Framed t n → r ≡ 0 → HoldsList t n (addRow r (rowsAt n t 0))
   row-empty f e = holds-equal (addRow r (rowsAt n t 0)) f (sym (rw e (add-empty (rowsAt n t 0))))
 
-  pub row-listed : Framed t n → Table (rowsAt n t 0) → Listed (rowsAt n t 0) r → Holds t n (addRow r (rowsAt n t 0))
+  pub row-listed : Framed t n → Table (rowsAt n t 0) → Listed (rowsAt n t 0) r → HoldsList t n (addRow r (rowsAt n t 0))
   row-listed f g l = holds-equal (addRow r (rowsAt n t 0)) f (sym (add-listed g l))
 
 pub row-full : (r : ℕ) (xs : List ℕ) → r ≢ 0 → 128 < length (place r xs) → 128 < length (addRow r xs)

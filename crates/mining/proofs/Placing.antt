@@ -11,16 +11,16 @@ use Rattle.model.specs.Lists.{rowsAt}
 use Rattle.model.proofs.Lists.{length-rowsAt}
 use Rattle.model.proofs.Growing.{place-listed, placed, placed-length}
 use Rattle.tables.specs.Search.{Between, Inserts}
-use Rattle.mining.specs.Mining.{Framed, Holds}
+use Rattle.mining.specs.Mining.{Framed, HoldsList}
 
 -- a table holds its own sets, and any list that is equal to theirs
-pub holds-equal : {t : List ℕ} {n : ℕ} (xs : List ℕ) → Framed t n → rowsAt n t 0 ≡ xs → Holds t n xs
+pub holds-equal : {t : List ℕ} {n : ℕ} (xs : List ℕ) → Framed t n → rowsAt n t 0 ≡ xs → HoldsList t n xs
 holds-equal {t} {n} xs f e = record { frame = f; rows = e; count = sym (length-rowsAt n t 0) ∙ ap length e }
 
 pub found-listed : (n : ℕ) (t : List ℕ) (i : ℕ) {x : ℕ} → (i < n) × (getD (rowsAt n t 0) i 0 ≡ x) → Listed (rowsAt n t 0) x
 found-listed n t i h = record { place = i; below = rw (length-rowsAt n t 0) (h .0); there = h .1 }
 
-pub holds-listed : {t : List ℕ} {n x : ℕ} → Framed t n → Growing (rowsAt n t 0) → Listed (rowsAt n t 0) x → Holds t n (place x (rowsAt n t 0))
+pub holds-listed : {t : List ℕ} {n x : ℕ} → Framed t n → Growing (rowsAt n t 0) → Listed (rowsAt n t 0) x → HoldsList t n (place x (rowsAt n t 0))
 holds-listed {t} {n} {x} f g l = holds-equal (place x (rowsAt n t 0)) f (sym (place-listed g l))
 
 module _ (n : ℕ) (t : List ℕ) {x i : ℕ} (b : Between n (rowsAt n t 0) x i) where
@@ -39,7 +39,7 @@ module _ (n : ℕ) (t : List ℕ) {x i : ℕ} (b : Between n (rowsAt n t 0) x i)
   pub new-full : n ≡ 128 → 128 < length (place x (rowsAt n t 0))
   new-full e = rw new-length (omega arith)
 
-  pub holds-new : {t' : List ℕ} → Framed t n → (n ≡ 128 → ⊥) → Inserts n i x t t' → length t' ≡ 512 → Holds t' (n + 1) (place x (rowsAt n t 0))
+  pub holds-new : {t' : List ℕ} → Framed t n → (n ≡ 128 → ⊥) → Inserts n i x t t' → length t' ≡ 512 → HoldsList t' (n + 1) (place x (rowsAt n t 0))
   holds-new {t'} f d h e =
       record {
         frame = record { size = e; few = omega (arith, f .few); rest = λ w l. h .rest w l ∙ f .rest w (omega arith) };

@@ -11,7 +11,7 @@ use Rattle.model.specs.Candidates.{place, addRow, Listed, Growing}
 use Rattle.model.specs.Lists.{setAt, rowsAt}
 use Rattle.model.proofs.Lists.{length-rowsAt}
 use Rattle.model.proofs.Growing.{listed-at, place-new, place-old}
-use Rattle.mining.specs.Mining.{Framed, Holds, Seen, Known}
+use Rattle.mining.specs.Mining.{Framed, HoldsList, Seen, Known}
 use Rattle.tables.proofs.Rows.{row-at}
 use Rattle.mining.proofs.Placing.{holds-equal}
 use Rattle.mining.proofs.Meeting.{Walked, walked-known, walked-placed, walked-full, walked-all, add-placed}
@@ -34,7 +34,7 @@ module _ (r : ℕ) (xs t : List ℕ) (count i : ℕ) (w : Walked r xs (rowsAt co
     pub walking-known : (slots : List ℕ) → Seen slots (rowsAt count t 0) → Known slots x y true → Walked r xs (rowsAt count t 0) (i + 1)
     walking-known slots s k = walked-known r xs w (rw meet at (known-listed s x y (rw here at (listed-at sets i below)) k))
 
-    pub walking-placed : {t' : List ℕ} {count' : ℕ} → y ≢ 0 → Holds t' count' (place y (rowsAt count t 0)) → Walked r xs (rowsAt count' t' 0) (i + 1)
+    pub walking-placed : {t' : List ℕ} {count' : ℕ} → y ≢ 0 → HoldsList t' count' (place y (rowsAt count t 0)) → Walked r xs (rowsAt count' t' 0) (i + 1)
     walking-placed d g = rw (g .rows) (walked-placed r xs w y meet d below)
 
     pub walking-full : y ≢ 0 → Growing xs → 128 < length (place y (rowsAt count t 0)) → 128 < length (addRow r xs)
@@ -44,15 +44,15 @@ module _ (r : ℕ) (xs t : List ℕ) (count i : ℕ) (w : Walked r xs (rowsAt co
     done : sets ≡ addRow r xs
     done = walked-all r xs w g l (rw (length-rowsAt count t 0) h)
 
-    pub walking-all : (slots : List ℕ) → Framed t count → Seen slots (rowsAt count t 0) → Holds t count (addRow r xs) × Seen slots (addRow r xs)
+    pub walking-all : (slots : List ℕ) → Framed t count → Seen slots (rowsAt count t 0) → HoldsList t count (addRow r xs) × Seen slots (addRow r xs)
     walking-all slots f s = (holds-equal (addRow r xs) f done, rw done at s)
 
 -- the slots of a table with other words and the same sets, or one more
-pub seen-held : {t : List ℕ} {count : ℕ} {xs slots : List ℕ} → Holds t count xs → Seen slots xs → Seen slots (rowsAt count t 0)
+pub seen-held : {t : List ℕ} {count : ℕ} {xs slots : List ℕ} → HoldsList t count xs → Seen slots xs → Seen slots (rowsAt count t 0)
 seen-held h s = rw (h .rows) s
 
 -- the table after r was placed in it
-module _ {t : List ℕ} {count : ℕ} (r : ℕ) (xs : List ℕ) (h : Holds t count (place r xs)) where
+module _ {t : List ℕ} {count : ℕ} (r : ℕ) (xs : List ℕ) (h : HoldsList t count (place r xs)) where
   pub placed-listed : Listed (rowsAt count t 0) r
   placed-listed = rw (h .rows) (place-new r xs)
 
@@ -63,5 +63,5 @@ module _ {t : List ℕ} {count : ℕ} (r : ℕ) (xs : List ℕ) (h : Holds t cou
   placed-same g d = rw (h .rows) (add-placed r xs g d)
 
 -- a table that holds ys by now, with its slots
-pub held-seen : {t : List ℕ} {count : ℕ} {ys slots : List ℕ} → Holds t count ys → Seen slots (rowsAt count t 0) → Holds t count ys × Seen slots ys
+pub held-seen : {t : List ℕ} {count : ℕ} {ys slots : List ℕ} → HoldsList t count ys → Seen slots (rowsAt count t 0) → HoldsList t count ys × Seen slots ys
 held-seen h s = (h, rw (h .rows) at s)

@@ -11,7 +11,7 @@ use Rattle.sets.proofs.Words.{Words, word-value, word-zero}
 use Rattle.model.specs.Lists.{tabulate, elems, setAt, rowsAt}
 use Rattle.model.specs.Record.{regionWord}
 use Rattle.model.proofs.Lists.{tabulate-is, length-elems, getD-elems, length-rowsAt}
-use Rattle.mining.specs.Mining.{Holds, Written}
+use Rattle.mining.specs.Mining.{HoldsList, Written}
 use Rattle.tables.proofs.Rows.{row-at}
 
 elems-words : (t : List ℕ) → Words t → (at n : ℕ) → Words (elems t at n)
@@ -33,7 +33,7 @@ table-words t xs c e f z k j h =
     let b : length (rowsAt c t 0) ≤ k = rw (length-rowsAt c t 0) l in
     rw (List·getD-eq-default (rowsAt c t 0) 0 b) (z (4 * k + j) (omega arith) ∙ sym (word-zero j))))
 
-pub holds-written : {t : List ℕ} {c : ℕ} {xs : List ℕ} → Holds t c xs → Words t → Written t c xs
+pub holds-written : {t : List ℕ} {c : ℕ} {xs : List ℕ} → HoldsList t c xs → Words t → Written t c xs
 holds-written {t} {c} {xs} h f = record { holds = h; words = λ i j l k. table-words t xs c (h .rows) f (h .frame .rest) i j k }
 
 -- the whole table, as a region of the record

@@ -13,27 +13,28 @@ use Rattle.mining.specs.declared.Admitted.{Admitted}
 use Rattle.mining.specs.declared.Admitted.the-variants as admitted
 use Rattle.mining.specs.declared.Mined.{Mined}
 use Rattle.mining.specs.declared.Mined.the-variants as mined
+use Rattle.tables.specs.Tables.{table256Length}
 
 -- a table of 512 words with k sets: there are at most 128, and zeros follow them
 pub record Framed (t : List ℕ) (k : ℕ) : Type 0 where
-  pub size : length t ≡ 512
+  pub size : length t ≡ table256Length
   pub few : k ≤ 128
   pub rest : (i : ℕ) → 4 * k ≤ i → getD t i 0 ≡ 0
 
 -- the sets are xs
-pub record Holds (t : List ℕ) (k : ℕ) (xs : List ℕ) : Type 0 where
+pub record HoldsList (t : List ℕ) (k : ℕ) (xs : List ℕ) : Type 0 where
   pub frame : Framed t k
   pub rows : rowsAt k t 0 ≡ xs
   pub count : k ≡ length xs
 
 -- a table that was to hold xs
 abbrev pub Admits : List ℕ → List ℕ → Admitted → Type 0
-Admits xs t (admitted.Count k) = Holds t k xs
+Admits xs t (admitted.Count k) = HoldsList t k xs
 Admits xs t admitted.Full = 128 < length xs
 
 -- a table that holds xs, by its words
 pub record Written (t : List ℕ) (k : ℕ) (xs : List ℕ) : Type 0 where
-  pub holds : Holds t k xs
+  pub holds : HoldsList t k xs
   pub words : (i j : ℕ) → i < 128 → j < 4 → getD t (4 * i + j) 0 ≡ word (getD xs i 0) j
 
 -- a table that was to hold the candidates xs
@@ -45,7 +46,7 @@ Mines xs t mined.TooMany = 128 < length xs
 
 -- each slot is empty or has one of the sets xs
 pub record Seen (slots xs : List ℕ) : Type 0 where
-  pub size : length slots ≡ 512
+  pub size : length slots ≡ table256Length
   pub listed : (s : ℕ) → s < 128 → (setAt 4 slots (4 * s) ≡ 0) ⊎ Listed xs (setAt 4 slots (4 * s))
 
 -- what is told of y, the meet of a row and x: it is x, empty, or in a slot; or it is not empty
@@ -62,5 +63,5 @@ pub record Remembered (x : ℕ) (slots slots' : List ℕ) : Type 0 where
 
 -- a table that was to hold xs, with the slots
 abbrev pub Adds : List ℕ → List ℕ → List ℕ → Admitted → Type 0
-Adds xs t slots (admitted.Count k) = Holds t k xs × Seen slots xs
+Adds xs t slots (admitted.Count k) = HoldsList t k xs × Seen slots xs
 Adds xs t slots admitted.Full = 128 < length xs

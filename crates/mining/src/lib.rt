@@ -11,6 +11,7 @@ ghost use Rattle.model.specs.Candidates.{place, addRow, candidates, Listed, Gro
 ghost use Rattle.model.specs.Lists.{rowsAt};
 ghost use Rattle.tables.specs.Search.{Between};
 ghost use Rattle.mining.specs.Mining.{Framed, Admits, Seen, Adds, Mines};
+ghost use Rattle.tables.specs.Tables.{table256Length};
 use seen::is_known;
 use seen::remember;
 use sets::Set256;
@@ -94,7 +95,7 @@ fn add_new(table: &mut [u64], seen: &mut [u64], n: usize, at: usize, r: Set256) 
     add_meets(table, seen, k, r)
 }
 
-// One more person's row. An empty row, or one that the table has, adds nothing.
+// One more user's row. An empty row, or one that the table has, adds nothing.
 fn add_row(table: &mut [u64], seen: &mut [u64], n: usize, r: Set256) -> Admitted
     requires { ⌜ Framed (now table) n × Table (rowsAt n (now table) 0) × Seen (now seen) (rowsAt n (now table) 0) ⌝ }
     ensures { λ a. ⌜ Adds (addRow (set256 r) (rowsAt n (now (table .entry)) 0)) (now (table .exit)) (now (seen .exit)) a ⌝ }
@@ -114,7 +115,7 @@ fn add_row(table: &mut [u64], seen: &mut [u64], n: usize, r: Set256) -> Admitted
 // them, whatever n is, and they meet at most 128 sets each, and the sets that they give once more. A meet is an AND and two or three
 // tests of four words, and one search where it is not in its slot of `seen`. At most 128 sets are put in, each with at most 508 words moved.
 pub fn mine(crew: &[u64], at: usize, n: usize, table: &mut [u64]) -> Mined
-    requires { ⌜ (at + 4 * n ≤ length (now crew)) × (length (now table) ≡ 512) × ((i : ℕ) → getD (now table) i 0 ≡ 0) ⌝ }
+    requires { ⌜ (at + 4 * n ≤ length (now crew)) × (length (now table) ≡ table256Length) × ((i : ℕ) → getD (now table) i 0 ≡ 0) ⌝ }
     ensures { λ r. ⌜ Mines (candidates (rowsAt n (now (crew .entry)) at)) (now (table .exit)) r ⌝ }
 {
     let mut seen = [0u64; 512];

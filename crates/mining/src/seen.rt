@@ -5,6 +5,7 @@ ghost use Prim.Native.Nat.{_<_};
 ghost use lib.ListN.{length};
 ghost use Rattle.sets.specs.Held.{set256};
 ghost use Rattle.mining.specs.Mining.{Known, Remembered};
+ghost use Rattle.tables.specs.Tables.{table256Length};
 use sets::Set256;
 use tables::load256;
 use tables::store256;
@@ -23,7 +24,7 @@ fn slot_of(x: Set256) -> usize
 
 // Whether y, the meet of a row and x, has no need of a search: it is x, it was seen before, or it is empty.
 pub fn is_known(seen: &[u64], x: Set256, y: Set256) -> bool
-    requires { ⌜ length (now seen) ≡ 512 ⌝ }
+    requires { ⌜ length (now seen) ≡ table256Length ⌝ }
     ensures { λ r. ⌜ Known (now (seen .entry)) (set256 x) (set256 y) r ⌝ }
 {
     if y.equals(x) {
@@ -37,7 +38,7 @@ pub fn is_known(seen: &[u64], x: Set256, y: Set256) -> bool
 
 // Puts x in its slot.
 pub fn remember(seen: &mut [u64], x: Set256)
-    requires { ⌜ length (now seen) ≡ 512 ⌝ }
+    requires { ⌜ length (now seen) ≡ table256Length ⌝ }
     ensures { λ r. ⌜ Remembered (set256 x) (now (seen .entry)) (now (seen .exit)) ⌝ }
 {
     store256(seen, 4 * slot_of(x), x);

@@ -14,7 +14,7 @@ use Rattle.sets.proofs.Truth.{and-iff, find}
 use Rattle.sets.proofs.Items.{item-below, empty-of}
 use Rattle.sets.proofs.Order.{subset-iff, subset-trans, proper-subset, proper-trans}
 use Rattle.model.specs.Hierarchy.{Roles, candidateCount, permissionSet, authorisedUsers, senior, immediatelySenior, immediateJuniors, directPermissions, directMembers, building}
-use Rattle.model.specs.Chains.{link, Chain, linksBut, Reaches, may, Member, Holds}
+use Rattle.model.specs.Chains.{link, Chain, linksBut, Reaches, may, HasMember, HasPermission}
 use Rattle.model.specs.Chains.Chain.{one, more}
 use Rattle.model.specs.Coverage.{grant, covered, allCovered}
 use Rattle.model.proofs.Direct.{direct-absent, Side, last-direct}
@@ -177,7 +177,7 @@ module _ (ρ : Roles) (R : ℕ) (o : Ordered ρ R) where
   reaches-senior k j r = ⊎-elim (λ e. _⊎_.inl e) (λ d. _⊎_.inr (chain-senior (link (building ρ R)) (λ _ _ h. h) d)) r
 
   -- the direct members of k and of the roles above it are A(k)
-  pub members-iff : (k u : ℕ) → So (has R k) → Member (building ρ R) k u ↔ So (has (authorisedUsers ρ k) u)
+  pub members-iff : (k u : ℕ) → So (has R k) → HasMember (building ρ R) k u ↔ So (has (authorisedUsers ρ k) u)
   unfolding building
   members-iff k u h = (
     λ m.
@@ -187,7 +187,7 @@ module _ (ρ : Roles) (R : ℕ) (o : Ordered ρ R) where
   )
 
   -- the direct permissions of k and of the roles below it are S(k)
-  pub holds-iff : (k p : ℕ) → So (has R k) → Holds (building ρ R) k p ↔ ((p < ρ .permissions) × So (has (permissionSet ρ k) p))
+  pub holds-iff : (k p : ℕ) → So (has R k) → HasPermission (building ρ R) k p ↔ ((p < ρ .permissions) × So (has (permissionSet ρ k) p))
   unfolding building
   holds-iff k p h = (
     λ d.

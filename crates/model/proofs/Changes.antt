@@ -11,7 +11,7 @@ use Rattle.sets.proofs.Truth.{by-test, So-not, and-iff, find}
 use Rattle.sets.proofs.Items.{same-set}
 use Rattle.sets.proofs.Order.{∖-iff, ∖-lt, ∪-lt, single-iff, single-lt}
 use Rattle.model.specs.Hierarchy.{Roles, candidateCount, permissionSet, authorisedUsers, senior, immediatelySenior, immediateJuniors, directPermissions, directMembers}
-use Rattle.model.proofs.Direct.{Next, next-taker, direct-same, direct-kept}
+use Rattle.model.proofs.Direct.{NextTo, next-taker, direct-same, direct-kept}
 use Rattle.model.proofs.Reading.{Ordered, senior-iff, immediate-iff, junior-iff}
 use Rattle.model.proofs.Building.{stands-below, senior-trans, senior-stands, juniors-side, seniors-side}
 
@@ -32,10 +32,10 @@ module _ (ρ : Roles) (R : ℕ) (o : Ordered ρ R) where
       (find (candidateCount ρ) (λ t. senior ρ R i t and senior ρ R t k))
 
   -- next on the side of the juniors, and of the seniors, is immediate
-  next-junior : (j k : ℕ) → Next (candidateCount ρ) (λ j k. senior ρ R k j) j k → So (immediatelySenior ρ R k j)
+  next-junior : (j k : ℕ) → NextTo (candidateCount ρ) (λ j k. senior ρ R k j) j k → So (immediatelySenior ρ R k j)
   next-junior j k h = immediate-iff ρ R k j .1 (h .0, λ i l p q. h .1 i l q p)
 
-  next-senior : (i k : ℕ) → Next (candidateCount ρ) (senior ρ R) i k → So (immediatelySenior ρ R i k)
+  next-senior : (i k : ℕ) → NextTo (candidateCount ρ) (senior ρ R) i k → So (immediatelySenior ρ R i k)
   next-senior i k h = immediate-iff ρ R i k .1 h
 
   -- on the way from a senior k to j, an immediate junior of k, and an immediate senior of j

@@ -41,17 +41,17 @@ use Rattle.model.proofs.Calls.{mine-code, mine-accepted, mine-refused, 
 use Rattle.model.proofs.Claim.{sound-fit, fit-sound, code-is, edit-fit, edit-replied, edit-state}
 use Rattle.model.proofs.Notions.{set-read, sound-stands, strikable-read, bare-read, built-rows}
 use Rattle.model.proofs.Sound.{sound-count, sound-rows, may-authorised, may-granted}
-use Rattle.model.proofs.Rules.{Judges, judges, judges-as, judges-broken, Above, above-lower, Judged, judged-next, judged-last}
+use Rattle.model.proofs.Rules.{Judges, judges, judges-as, judges-broken, Above, above-lower, NumberByRules, judged-next, judged-last}
 
 -- ---- the record that a call is lent: 1, 5
 
 -- and then the call's own rules
-judged-record : (ws : List ℕ) (rules : List Rule) (b : ℕ) → Above 5 rules → (So (sound ws) → Judged rules b)
-    → Judged (rule 1 (length ws ≡ recordLength) ∷ rule 5 (So (sound ws)) ∷ rules) (unfit ws orElse b)
+judged-record : (ws : List ℕ) (rules : List Rule) (b : ℕ) → Above 5 rules → (So (sound ws) → NumberByRules rules b)
+    → NumberByRules (rule 1 (length ws ≡ recordLength) ∷ rule 5 (So (sound ws)) ∷ rules) (unfit ws orElse b)
 unfolding unfit
 judged-record ws rules b up rest =
     let five : Rule = rule 5 (So (sound ws)) in
-    subst (Judged (rule 1 (length ws ≡ recordLength) ∷ five ∷ rules)) (sym (orElse-assoc (lengthRefusal ws) (soundnessRefusal ws) b))
+    subst (NumberByRules (rule 1 (length ws ≡ recordLength) ∷ five ∷ rules)) (sym (orElse-assoc (lengthRefusal ws) (soundnessRefusal ws) b))
     (judged-next (judges (length-check ws)) (five ∷ rules) (omega arith, above-lower 1 5 rules (omega arith) up) (soundnessRefusal ws orElse b)
     (λ _. judged-next (judges (soundness-check ws)) rules up b rest))
 
@@ -75,7 +75,7 @@ module _ (ws : List ℕ) (h : So (sound ws)) (k : ℕ) where
       judges-broken (Spared ws k) (Bare ws k) (strike-check ρ R k) t
       (λ d. bare-read ws h k s (not-So (strikable ρ R k) d), λ b x. b .alone (t .0 x (b .user) (b .permission) (b .covered)))
 
-  judged-strike : Judged (rule 6 (k < getD ws 2 0) ∷ rule 7 (Stands ws k) ∷ eight ∷ []) (refusal (stateOf ws) (strike k))
+  judged-strike : NumberByRules (rule 6 (k < getD ws 2 0) ∷ rule 7 (Stands ws k) ∷ eight ∷ []) (refusal (stateOf ws) (strike k))
   unfolding refusal stateOf
   judged-strike =
       let R = setAt 2 ws 4 in
@@ -83,7 +83,7 @@ module _ (ws : List ℕ) (h : So (sound ws)) (k : ℕ) where
       judged-next judges-role (rule 7 (Stands ws k) ∷ eight ∷ []) (omega arith, (omega arith, tt)) (absentRefusal R k orElse rest)
       (λ _. judged-next (judges (absent-check R k)) (eight ∷ []) (omega arith, tt) rest (λ s. judged-last (judges-strike s)))
 
-  judged-restore : Judged (rule 6 (k < getD ws 2 0) ∷ seven ∷ []) (refusal (stateOf ws) (restore k))
+  judged-restore : NumberByRules (rule 6 (k < getD ws 2 0) ∷ seven ∷ []) (refusal (stateOf ws) (restore k))
   unfolding refusal stateOf
   judged-restore =
       let R = setAt 2 ws 4 in
@@ -93,10 +93,10 @@ module _ (ws : List ℕ) (h : So (sound ws)) (k : ℕ) where
       (judges-broken (¬ Stands ws k) (Stands ws k) (standing-check R k) (λ f. So-not f, not-So (has R k))
       (λ d. by-test (has R k) (λ t. t) (λ f. absurd (d f)), λ s f. So-not f s)))
 
-judged-weights : (w : Weights) → Judged (rule 9 (WeightsInRange w) ∷ []) (weightsRefusal w)
+judged-weights : (w : Weights) → NumberByRules (rule 9 (WeightsInRange w) ∷ []) (weightsRefusal w)
 judged-weights w = judged-last (judges-as (WeightsInRange w) (weights-check w) (weightsAllowed-iff w))
 
-judged-eliminate : (st : State) (w : Weights) (t : Tolerance) → Judged (rule 9 (WeightsInRange w × ToleranceInRange t) ∷ []) (refusal st (eliminate w t))
+judged-eliminate : (st : State) (w : Weights) (t : Tolerance) → NumberByRules (rule 9 (WeightsInRange w × ToleranceInRange t) ∷ []) (refusal st (eliminate w t))
 judged-eliminate st w t =
     let a = weightsAllowed-iff w in
     let b = tolerance-iff t in
@@ -104,7 +104,7 @@ judged-eliminate st w t =
     (judges-as (WeightsInRange w × ToleranceInRange t) (eliminate-check st w t) (λ x. (a .0 (x .0), b .0 (x .1)), λ x. (a .1 (x .0), b .1 (x .1))))
 
 judged-pair : (ws : List ℕ) (u p : ℕ)
-    → Judged (rule 6 ((u < getD ws 0 0) × (p < getD ws 1 0)) ∷ []) (pairRefusal (stateOf ws .users) (stateOf ws .permissions) u p)
+    → NumberByRules (rule 6 ((u < getD ws 0 0) × (p < getD ws 1 0)) ∷ []) (pairRefusal (stateOf ws .users) (stateOf ws .permissions) u p)
 unfolding stateOf
 judged-pair ws u p = judged-last (judges (pair-check (getD ws 0 0) (getD ws 1 0) u p))
 
@@ -142,7 +142,7 @@ more-iff rows = (
       let z : ⊥ = omega arith in z,
 )
 
-judged-mining : (n m : ℕ) (crew ws : List ℕ) → Judged (miningRules n m crew ws) (miningRefusal n m crew ws)
+judged-mining : (n m : ℕ) (crew ws : List ℕ) → NumberByRules (miningRules n m crew ws) (miningRefusal n m crew ws)
 unfolding miningRefusal
 judged-mining n m crew ws =
     let rows = rowsAt n crew 0 in
@@ -158,7 +158,7 @@ judged-mining n m crew ws =
 
 -- ---- condition 1
 
-judged-condition : {rules : List Rule} {code : ℕ} (given : ℕ) (beside lent left : List ℕ) → Judged rules code → given ≡ code
+judged-condition : {rules : List Rule} {code : ℕ} (given : ℕ) (beside lent left : List ℕ) → NumberByRules rules code → given ≡ code
     → (code ≢ 0 → ((i : ℕ) → getD beside i 0 ≡ 0) × (left ≡ lent)) → Condition1 rules given beside lent left
 judged-condition {rules} {code} given beside lent left j e refused =
     let no : given ≢ 0 → code ≢ 0 = λ d z. d (e ∙ z) in
@@ -183,7 +183,7 @@ mine-condition1 n m crew ws =
     judged-condition (mine n m crew ws .code) (mine n m crew ws .candidates ∷ []) ws (mine n m crew ws .words) (judged-mining n m crew ws)
     (mine-code n m crew ws) (λ d. rw (mine-refused n m crew ws d) (zeros1, refl))
 
-edit-condition1 : {rules : List Rule} (ws : List ℕ) (call : Call) → Judged rules (unfit ws orElse refusal (stateOf ws) call)
+edit-condition1 : {rules : List Rule} (ws : List ℕ) (call : Call) → NumberByRules rules (unfit ws orElse refusal (stateOf ws) call)
     → EditCondition1 rules ws (edit ws call)
 unfolding reply
 edit-condition1 ws call j =
@@ -191,7 +191,7 @@ edit-condition1 ws call j =
     judged-condition (e .replied .code) (e .replied .changed ∷ e .replied .examined ∷ []) ws (e .words) j (edit-code ws call)
     (λ d. rw (edit-refused ws call d) (zeros2, refl))
 
-told-condition1 : {rules : List Rule} (ws : List ℕ) (code value : ℕ) → Judged rules code
+told-condition1 : {rules : List Rule} (ws : List ℕ) (code value : ℕ) → NumberByRules rules code
     → Condition1 rules (told code value .code) (told code value .value ∷ []) ws ws
 told-condition1 ws code value j =
     judged-condition (told code value .code) (told code value .value ∷ []) ws ws j (told-code code value)

@@ -49,8 +49,8 @@ pub record Side (c R : ℕ) (takes : ℕ → ℕ → Bool) (own : ℕ → ℕ) :
   pub falls : (j k : ℕ) → So (takes j k) → height j < height k
 
 -- j takes away from k, with none between them
-abbrev pub Next : ℕ → (ℕ → ℕ → Bool) → ℕ → ℕ → Type 0
-Next c takes j k = So (takes j k) × ((i : ℕ) → i < c → So (takes j i) → So (takes i k) → ⊥)
+abbrev pub NextTo : ℕ → (ℕ → ℕ → Bool) → ℕ → ℕ → Type 0
+NextTo c takes j k = So (takes j k) × ((i : ℕ) → i < c → So (takes j i) → So (takes i k) → ⊥)
 
 module _ (n c R : ℕ) (takes : ℕ → ℕ → Bool) (own : ℕ → ℕ) (side : Side c R takes own) where
   taker-below : (j k : ℕ) → So (takes j k) → j < c
@@ -91,10 +91,10 @@ module _ (n c R : ℕ) (takes : ℕ → ℕ → Bool) (own : ℕ → ℕ) (side 
           (find c (λ j. takes j k and has (own j) i))
 
   -- among those that take away from k, one is next to it on the way from j
-  pub next-taker : (j k : ℕ) → So (takes j k) → (t : ℕ) × Next c takes t k × ((j ≡ t) ⊎ So (takes j t))
+  pub next-taker : (j k : ℕ) → So (takes j k) → (t : ℕ) × NextTo c takes t k × ((j ≡ t) ⊎ So (takes j t))
   next-taker j k h = go (suc (side .height k)) j (omega arith) h
     where
-      go : (f j : ℕ) → side .height k < f + side .height j → So (takes j k) → (t : ℕ) × Next c takes t k × ((j ≡ t) ⊎ So (takes j t))
+      go : (f j : ℕ) → side .height k < f + side .height j → So (takes j k) → (t : ℕ) × NextTo c takes t k × ((j ≡ t) ⊎ So (takes j t))
       go zero j b h = let x = side .falls j k h in let z : ⊥ = omega arith in absurd z
       go (suc f) j b h =
           ⊎-elim
@@ -107,7 +107,7 @@ module _ (n c R : ℕ) (takes : ℕ → ℕ → Bool) (own : ℕ → ℕ) (side 
 
   -- what a role has itself is told by those next to it alone
   pub direct-next : (k i : ℕ) → i < n → So (has R k)
-      → So (has (directOf n c R takes own k) i) ↔ (So (has (own k) i) × ((j : ℕ) → Next c takes j k → So (has (own j) i) → ⊥))
+      → So (has (directOf n c R takes own k) i) ↔ (So (has (own k) i) × ((j : ℕ) → NextTo c takes j k → So (has (own j) i) → ⊥))
   direct-next k i l h = (
     λ t. let a = direct-iff n c R takes own k i .0 t in (a .2, λ j x q. a .3 j (taker-below j k (x .0)) (x .0) q),
     λ f.
@@ -139,7 +139,7 @@ module _ (n c R : ℕ) (takes : ℕ → ℕ → Bool) (own : ℕ → ℕ) (side 
         )
 
     -- a role that has none of s next to it keeps what it has itself
-    pub direct-same : (k : ℕ) → (So (has s k) → ⊥) → ((t : ℕ) → So (has s t) → Next c takes t k → ⊥)
+    pub direct-same : (k : ℕ) → (So (has s k) → ⊥) → ((t : ℕ) → So (has s t) → NextTo c takes t k → ⊥)
         → directOf n c (R ∖ s) left own k ≡ directOf n c R takes own k
     direct-same k d apart =
         same-set (directOf n c (R ∖ s) left own k) (directOf n c R takes own k)
@@ -196,9 +196,9 @@ module _ (n c R : ℕ) (takes : ℕ → ℕ → Bool) (own : ℕ → ℕ) (side 
       direct-counted = ap (λ (x : ℕ). ones x + ones (old ∩ own t)) direct-restored ∙ ones-∖ old (own t)
 
     -- where t goes, a role next to it takes over what was direct with t and is with no other that is next to it
-    pub direct-taken : (k : ℕ) → Next c takes t k → (i : ℕ)
+    pub direct-taken : (k : ℕ) → NextTo c takes t k → (i : ℕ)
         → So (has (directOf n c (R ∖ single t) left own k ∩ own t) i)
-        ↔ (So (has (directOf n c R takes own t) i) × ((x : ℕ) → Next c takes x k → x ≢ t → So (has (own x) i) → ⊥))
+        ↔ (So (has (directOf n c R takes own t) i) × ((x : ℕ) → NextTo c takes x k → x ≢ t → So (has (own x) i) → ⊥))
     direct-taken k next i =
         let h = next .0 in
         let old = directOf n c (R ∖ single t) left own k in

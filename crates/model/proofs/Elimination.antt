@@ -55,7 +55,7 @@ module _ (ρ : Roles) (w : Weights) (t : Tolerance) where
 
   -- ---- what holds all along, from the standing set R on
 
-  pub record Going (R : ℕ) (r : Run) : Type 0 where
+  pub record RunFrom (R : ℕ) (r : Run) : Type 0 where
     pub below : r .standing < 2 ^ candidateCount ρ
     pub listable : r .worklist < 2 ^ candidateCount ρ
     pub within : So (subset (r .standing) R)
@@ -65,9 +65,9 @@ module _ (ρ : Roles) (w : Weights) (t : Tolerance) where
     pub counts : r .changed + ones (r .standing) ≡ ones R
     pub strikes : Strikes ρ R (r .changed) (r .standing)
 
-  pub going-on : (R k : ℕ) (r : Run) → k < candidateCount ρ → Going R r → Going R (takeUp ρ w t k r)
+  pub run-on : (R k : ℕ) (r : Run) → k < candidateCount ρ → RunFrom R r → RunFrom R (takeUp ρ w t k r)
   unfolding afterDrop afterStrike afterStay
-  going-on R k r lk g =
+  run-on R k r lk g =
       take-up k r
       (λ s e.
       rw e
@@ -116,7 +116,7 @@ module _ (ρ : Roles) (w : Weights) (t : Tolerance) where
   unfolding afterDrop afterStrike afterStay
   never-fewer k r = take-up k r (λ _ e. rw e (le-refl (r .changed))) (λ _ _ e. rw e (omega arith)) (λ _ _ e. rw e (le-refl (r .changed)))
 
-  pub list-shrinks : (R k : ℕ) (r : Run) → k < candidateCount ρ → Going R r
+  pub list-shrinks : (R k : ℕ) (r : Run) → k < candidateCount ρ → RunFrom R r
       → takeUp ρ w t k r .changed + ones (takeUp ρ w t k r .worklist) ≤ r .changed + ones (r .worklist)
   unfolding afterDrop afterStrike afterStay
   list-shrinks R k r lk g =
@@ -136,10 +136,10 @@ module _ (ρ : Roles) (w : Weights) (t : Tolerance) where
       take-up k r (λ s e. rw e (refl, refl, λ h. absurd (So-not s h)))
       (λ _ _ e. let x : suc (r .changed) ≡ r .changed = rw e at same in let z : ⊥ = omega arith in absurd z) (λ _ l e. rw e (refl, refl, λ _. l))
 
-  rules : (R : ℕ) → Rules ρ (takeUp ρ w t) (Going R) NotWorth (ones R)
+  rules : (R : ℕ) → Rules ρ (takeUp ρ w t) (RunFrom R) NotWorth (ones R)
   rules R =
       record {
-        keeps = going-on R;
+        keeps = run-on R;
         listable = λ r g. g .listable;
         listed = λ r g. g .listed;
         few = λ r g. let x = g .counts in omega arith;
@@ -151,9 +151,9 @@ module _ (ρ : Roles) (w : Weights) (t : Tolerance) where
 
   -- ---- the whole elimination
 
-  begin-going : (R : ℕ) → R < 2 ^ candidateCount ρ → Going R (begin ρ w (strikables ρ R) R)
+  begin-run : (R : ℕ) → R < 2 ^ candidateCount ρ → RunFrom R (begin ρ w (strikables ρ R) R)
   unfolding begin strikables
-  begin-going R b =
+  begin-run R b =
       record {
         below = b;
         listable = collect-lt (candidateCount ρ) (λ k. strikable ρ R k);
@@ -174,14 +174,14 @@ module _ (ρ : Roles) (w : Weights) (t : Tolerance) where
     unfolding begin
     enough = let h = ones-le (candidateCount ρ) R b in omega arith
 
-    ends : Going R (eliminated ρ w t R) × Closed (eliminated ρ w t R)
+    ends : RunFrom R (eliminated ρ w t R) × Closed (eliminated ρ w t R)
     unfolding eliminated
     ends =
-        let e = passes-end ρ (takeUp ρ w t) (Going R) NotWorth (ones R) (rules R) (suc (candidateCount ρ)) (begin ρ w (strikables ρ R) R) (begin-going R b) enough in
+        let e = passes-end ρ (takeUp ρ w t) (RunFrom R) NotWorth (ones R) (rules R) (suc (candidateCount ρ)) (begin ρ w (strikables ρ R) R) (begin-run R b) enough in
         (e .0, λ k lk s. rw (e .0 .quality-now) at (e .1 k lk s s))
 
-    pub eliminated-going : Going R (eliminated ρ w t R)
-    eliminated-going = ends .0
+    pub eliminated-run : RunFrom R (eliminated ρ w t R)
+    eliminated-run = ends .0
 
     -- the closing property
     pub eliminated-closed : Closed (eliminated ρ w t R)
@@ -191,15 +191,15 @@ module _ (ρ : Roles) (w : Weights) (t : Tolerance) where
     pub eliminated-fuel : passes ρ (takeUp ρ w t) (suc (suc (candidateCount ρ))) (begin ρ w (strikables ρ R) R) ≡ eliminated ρ w t R
     unfolding eliminated
     eliminated-fuel =
-        passes-fuel ρ (takeUp ρ w t) (Going R) NotWorth (ones R) (rules R) (suc (candidateCount ρ)) (begin ρ w (strikables ρ R) R) (begin-going R b) enough
+        passes-fuel ρ (takeUp ρ w t) (RunFrom R) NotWorth (ones R) (rules R) (suc (candidateCount ρ)) (begin ρ w (strikables ρ R) R) (begin-run R b) enough
 
     -- "at most c(c + 1)/2"
     pub eliminated-examined : 2 * eliminated ρ w t R .examined ≤ candidateCount ρ * (candidateCount ρ + 1)
     unfolding eliminated begin
     eliminated-examined =
         let c = candidateCount ρ in
-        let g = begin-going R b in
+        let g = begin-run R b in
         let l = ones-le c (strikables ρ R) (g .listable) in
-        let h = passes-examined ρ (takeUp ρ w t) (Going R) NotWorth (ones R) (rules R) (suc c) (begin ρ w (strikables ρ R) R) g in
+        let h = passes-examined ρ (takeUp ρ w t) (RunFrom R) NotWorth (ones R) (rules R) (suc c) (begin ρ w (strikables ρ R) R) g in
         let m = triangle-mono (ones (strikables ρ R)) c l in
         rw (sym (triangle-is c)) (omega arith)

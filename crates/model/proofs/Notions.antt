@@ -14,7 +14,7 @@ use Rattle.sets.proofs.Order.{subset-iff, proper-iff}
 use Rattle.model.specs.Lists.{rowsAt}
 use Rattle.model.specs.Candidates.{candidates}
 use Rattle.model.specs.Hierarchy.{Roles, candidateCount, permissionSet, authorisedUsers, senior, building}
-use Rattle.model.specs.Chains.{link, Member, Holds}
+use Rattle.model.specs.Chains.{link, HasMember, HasPermission}
 use Rattle.model.specs.Coverage.{grant, covers, strikable}
 use Rattle.model.specs.State.{State, rolesOf}
 use Rattle.model.specs.Record.{crewStart, built, stateOf, roleRowsOf, sound, Limits}
@@ -200,9 +200,9 @@ module _ (ws : List ℕ) (h : So (sound ws)) where
   pub standard-held : Standard ws
   unfolding rolesOf stateOf
   standard-held =
-      let ms : (k u : ℕ) → Stands ws k → Member (roleRowsOf ws) k u ↔ Serves ws k u =
+      let ms : (k u : ℕ) → Stands ws k → HasMember (roleRowsOf ws) k u ↔ Serves ws k u =
       λ k u s. let r = serves-read k u (sound-stands k s) in rw rows-read (Iff·trans (members-iff ρ R o k u s) (r .1, r .0)) in
-      let ps : (k p : ℕ) → Stands ws k → Holds (roleRowsOf ws) k p ↔ So (has (roleSet ws k) p) =
+      let ps : (k p : ℕ) → Stands ws k → HasPermission (roleRowsOf ws) k p ↔ So (has (roleSet ws k) p) =
       λ k p s.
       let l = sound-stands k s in
       let i = holds-iff ρ R o k p s in

@@ -47,16 +47,16 @@ module _ (ρ : Roles) (w : Weights) where
 
   -- ---- what holds all along, from the standing set R on
 
-  pub record Going (R : ℕ) (r : Run) : Type 0 where
+  pub record RunFrom (R : ℕ) (r : Run) : Type 0 where
     pub below : r .standing < 2 ^ candidateCount ρ
     pub within : So (subset R (r .standing))
     pub quality-now : r .reference ≡ quality ρ w (r .standing)
     pub counts : r .changed + ones R ≡ ones (r .standing)
     pub restores : Restores ρ R (r .changed) (r .standing)
 
-  pub going-on : (R k : ℕ) (r : Run) → k < candidateCount ρ → Going R r → Going R (tryRestore ρ w k r)
+  pub run-on : (R k : ℕ) (r : Run) → k < candidateCount ρ → RunFrom R r → RunFrom R (tryRestore ρ w k r)
   unfolding afterRestore afterStay
-  going-on R k r lk g =
+  run-on R k r lk g =
       try-one k r (λ _ e. rw e g)
       (λ a _ e.
       rw e
@@ -88,10 +88,10 @@ module _ (ρ : Roles) (w : Weights) where
 
   -- ---- the candidates below n, by growing number
 
-  pub to-going : (R n : ℕ) (r : Run) → n ≤ candidateCount ρ → Going R r → Going R (reviewTo ρ w n r)
+  pub to-run : (R n : ℕ) (r : Run) → n ≤ candidateCount ρ → RunFrom R r → RunFrom R (reviewTo ρ w n r)
   unfolding reviewTo
-  to-going R zero r l g = g
-  to-going R (suc n) r l g = going-on R n (reviewTo ρ w n r) l (to-going R n r (omega arith) g)
+  to-run R zero r l g = g
+  to-run R (suc n) r l g = run-on R n (reviewTo ρ w n r) l (to-run R n r (omega arith) g)
 
   pub to-never-fewer : (n : ℕ) (r : Run) → r .changed ≤ reviewTo ρ w n r .changed
   unfolding reviewTo
@@ -129,21 +129,21 @@ module _ (ρ : Roles) (w : Weights) where
   abbrev pub Closed : Run → Type 0
   Closed r = (k : ℕ) → k < candidateCount ρ → has (r .standing) k ≡ false → quality ρ w (r .standing) ≤ after (r .standing) k
 
-  closed-by-pass : (R : ℕ) (r : Run) → Going R r → reviewTo ρ w (candidateCount ρ) r .changed ≡ r .changed → Closed (reviewTo ρ w (candidateCount ρ) r)
+  closed-by-pass : (R : ℕ) (r : Run) → RunFrom R r → reviewTo ρ w (candidateCount ρ) r .changed ≡ r .changed → Closed (reviewTo ρ w (candidateCount ρ) r)
   closed-by-pass R r g same k lk a =
       let n = none-restored (candidateCount ρ) r same in
       rw (n .0) (rw (g .quality-now) at (n .2 k lk (rw (n .0) at a)))
 
   -- c + 1 passes are enough
-  pub passes-end : (R fuel : ℕ) (r : Run) → Going R r → candidateCount ρ < fuel + r .changed
-      → Going R (reviewPasses ρ w fuel r) × Closed (reviewPasses ρ w fuel r)
+  pub passes-end : (R fuel : ℕ) (r : Run) → RunFrom R r → candidateCount ρ < fuel + r .changed
+      → RunFrom R (reviewPasses ρ w fuel r) × Closed (reviewPasses ρ w fuel r)
   unfolding reviewPasses
   passes-end R zero r g l =
       let x = g .counts in let y = ones-le (candidateCount ρ) (r .standing) (g .below) in let z : ⊥ = omega arith in absurd z
   passes-end R (suc fuel) r g l =
       let next = reviewTo ρ w (candidateCount ρ) r in
       let rest = reviewPasses ρ w fuel next in
-      let g' = to-going R (candidateCount ρ) r (le-refl (candidateCount ρ)) g in
+      let g' = to-run R (candidateCount ρ) r (le-refl (candidateCount ρ)) g in
       by-test (eqb (next .changed) (r .changed))
       (λ d. rw (if-true (eqb (next .changed) (r .changed)) next rest d) (g', closed-by-pass R r g (eqb-iff (next .changed) (r .changed) .0 d)))
       (λ d.
@@ -152,7 +152,7 @@ module _ (ρ : Roles) (w : Weights) where
       rw (if-false (eqb (next .changed) (r .changed)) next rest d) (passes-end R fuel next g' (omega arith)))
 
   -- more fuel changes nothing
-  pub passes-fuel : (R fuel : ℕ) (r : Run) → Going R r → candidateCount ρ < fuel + r .changed → reviewPasses ρ w (suc fuel) r ≡ reviewPasses ρ w fuel r
+  pub passes-fuel : (R fuel : ℕ) (r : Run) → RunFrom R r → candidateCount ρ < fuel + r .changed → reviewPasses ρ w (suc fuel) r ≡ reviewPasses ρ w fuel r
   unfolding reviewPasses
   passes-fuel R zero r g l =
       let x = g .counts in let y = ones-le (candidateCount ρ) (r .standing) (g .below) in let z : ⊥ = omega arith in absurd z
@@ -166,7 +166,7 @@ module _ (ρ : Roles) (w : Weights) where
       let x = to-never-fewer (candidateCount ρ) r in
       let y : next .changed ≢ r .changed = λ z. So-not d (eqb-iff (next .changed) (r .changed) .1 z) in
       if-false (eqb (next .changed) (r .changed)) next more d
-      ∙ passes-fuel R fuel next (to-going R (candidateCount ρ) r (le-refl (candidateCount ρ)) g) (omega arith)
+      ∙ passes-fuel R fuel next (to-run R (candidateCount ρ) r (le-refl (candidateCount ρ)) g) (omega arith)
       ∙ sym (if-false (eqb (next .changed) (r .changed)) next rest d))
 
   pub passes-examined : (fuel : ℕ) (r : Run) → reviewPasses ρ w fuel r .examined ≤ r .examined + fuel * candidateCount ρ
@@ -184,16 +184,16 @@ module _ (ρ : Roles) (w : Weights) where
   -- ---- the whole review
 
   module _ (R : ℕ) (b : R < 2 ^ candidateCount ρ) where
-    begin-going : Going R (begin ρ w 0 R)
+    begin-run : RunFrom R (begin ρ w 0 R)
     unfolding begin
-    begin-going = record { below = b; within = subset-refl R; quality-now = refl; counts = zero-add (ones R); restores = none }
+    begin-run = record { below = b; within = subset-refl R; quality-now = refl; counts = zero-add (ones R); restores = none }
 
-    ends : Going R (reviewed ρ w R) × Closed (reviewed ρ w R)
+    ends : RunFrom R (reviewed ρ w R) × Closed (reviewed ρ w R)
     unfolding reviewed begin
-    ends = passes-end R (suc (candidateCount ρ)) (begin ρ w 0 R) begin-going (omega arith)
+    ends = passes-end R (suc (candidateCount ρ)) (begin ρ w 0 R) begin-run (omega arith)
 
-    pub reviewed-going : Going R (reviewed ρ w R)
-    reviewed-going = ends .0
+    pub reviewed-run : RunFrom R (reviewed ρ w R)
+    reviewed-run = ends .0
 
     -- the closing property
     pub reviewed-closed : Closed (reviewed ρ w R)

@@ -50,7 +50,7 @@ not-above n [] a o = o
 not-above n (r ∷ rules) a o = ⊎-elim (λ (e : n ≡ r .number). let l = a .0 in let z : ⊥ = omega arith in z) (not-above n rules (a .1)) o
 
 -- the clauses of condition 1 that speak of the number
-pub record Judged (rules : List Rule) (code : ℕ) : Type 1 where
+pub record NumberByRules (rules : List Rule) (code : ℕ) : Type 1 where
   pub number : OneOf code (0 ∷ numbersOf rules)
   pub exactly : (Before : Type 0) → Before → Exactly Before rules code
 
@@ -68,7 +68,7 @@ module _ {r : Rule} {a : ℕ} (x : Judges a r) (rules : List Rule) (up : Above (
   clash p b = x .some (sym (x .stops b) ∙ x .passes p)
 
   -- the rule is broken: its number is answered
-  judged-here : r .broken → Judged (r ∷ rules) (r .number)
+  judged-here : r .broken → NumberByRules (r ∷ rules) (r .number)
   judged-here b =
       record {
         number = _⊎_.inr (_⊎_.inl refl);
@@ -77,7 +77,7 @@ module _ {r : Rule} {a : ℕ} (x : Judges a r) (rules : List Rule) (up : Above (
       }
 
   -- it holds: the others decide
-  judged-later : (b : ℕ) → r .holds → Judged rules b → Judged (r ∷ rules) b
+  judged-later : (b : ℕ) → r .holds → NumberByRules rules b → NumberByRules (r ∷ rules) b
   judged-later b p rest =
       let other : b ≢ r .number =
       λ (e : b ≡ r .number).
@@ -89,13 +89,13 @@ module _ {r : Rule} {a : ℕ} (x : Judges a r) (rules : List Rule) (up : Above (
       }
 
   -- a check, with others behind it that run where its rule holds
-  pub judged-next : (b : ℕ) → (r .holds → Judged rules b) → Judged (r ∷ rules) (a orElse b)
+  pub judged-next : (b : ℕ) → (r .holds → NumberByRules rules b) → NumberByRules (r ∷ rules) (a orElse b)
   judged-next b rest =
-      equal-or a 0 (λ e. let p = x .passed e in subst (Judged (r ∷ rules)) (sym (orElse-next a b e)) (judged-later b p (rest p)))
-      (λ d. let t = x .stopped d in subst (Judged (r ∷ rules)) (sym (orElse-first a b d ∙ x .stops t)) (judged-here t))
+      equal-or a 0 (λ e. let p = x .passed e in subst (NumberByRules (r ∷ rules)) (sym (orElse-next a b e)) (judged-later b p (rest p)))
+      (λ d. let t = x .stopped d in subst (NumberByRules (r ∷ rules)) (sym (orElse-first a b d ∙ x .stops t)) (judged-here t))
 
 -- the last check
-pub judged-last : {r : Rule} {a : ℕ} → Judges a r → Judged (r ∷ []) a
+pub judged-last : {r : Rule} {a : ℕ} → Judges a r → NumberByRules (r ∷ []) a
 judged-last {r} {a} x =
-    subst (Judged (r ∷ [])) (orElse-none a)
+    subst (NumberByRules (r ∷ [])) (orElse-none a)
     (judged-next x [] tt 0 (λ _. record { number = _⊎_.inl refl; exactly = λ Before before. (λ _. before, λ _. refl) }))

@@ -29,8 +29,8 @@ use Rattle.model.specs.Calls.{miningRefusal}
 use Rattle.model.proofs.Refusals.{mining-iff, strike-iff, restore-iff}
 use Rattle.model.proofs.Lists.{length-rowsAt}
 use Rattle.model.proofs.Record.{withinLimits-iff, rowsWithin-iff}
-use Rattle.model.proofs.Elimination.{Strikes, eliminated-going}
-use Rattle.model.proofs.Review.{Restores, reviewed-going}
+use Rattle.model.proofs.Elimination.{Strikes, eliminated-run}
+use Rattle.model.proofs.Review.{Restores, reviewed-run}
 
 -- what the theory of the hierarchy asks holds of every state within the limits
 pub limits-ordered : (st : State) → Limits st → Ordered (rolesOf st) (st .standing)
@@ -117,12 +117,12 @@ accepted-fit st (restore k) e f =
     (∪-lt (candidateCount (rolesOf st)) (st .standing) (single k) (f .limits .standing-below) (single-lt (candidateCount (rolesOf st)) k (a .0)))
     (restored-covered (rolesOf st) (st .standing) (single k) (f .covers-all))
 accepted-fit st (eliminate w t) e f =
-    let g = eliminated-going (rolesOf st) w t (st .standing) (f .limits .standing-below) in
+    let g = eliminated-run (rolesOf st) w t (st .standing) (f .limits .standing-below) in
     fit-now st (eliminated (rolesOf st) w t (st .standing) .standing) f (g .below)
     (strikes-covered (rolesOf st) (st .standing) (eliminated (rolesOf st) w t (st .standing) .changed) (eliminated (rolesOf st) w t (st .standing) .standing)
     (g .strikes) (f .covers-all))
 accepted-fit st (review w) e f =
-    let g = reviewed-going (rolesOf st) w (st .standing) (f .limits .standing-below) in
+    let g = reviewed-run (rolesOf st) w (st .standing) (f .limits .standing-below) in
     fit-now st (reviewed (rolesOf st) w (st .standing) .standing) f (g .below)
     (restores-covered (rolesOf st) (st .standing) (reviewed (rolesOf st) w (st .standing) .changed) (reviewed (rolesOf st) w (st .standing) .standing)
     (g .restores) (f .covers-all))
@@ -227,7 +227,7 @@ unfolding accepted reply
 elimination-made st w t lim e =
     rw (step-accepted st (eliminate w t) e)
     (strikes-made st (eliminated (rolesOf st) w t (st .standing) .changed) (eliminated (rolesOf st) w t (st .standing) .standing)
-    (eliminated-going (rolesOf st) w t (st .standing) (lim .standing-below) .strikes))
+    (eliminated-run (rolesOf st) w t (st .standing) (lim .standing-below) .strikes))
 
 -- "a review a list of accepted single restorations"
 pub review-made : (st : State) (w : Weights) → Limits st → refusal st (review w) ≡ 0
@@ -236,7 +236,7 @@ unfolding accepted reply
 review-made st w lim e =
     rw (step-accepted st (review w) e)
     (restores-made st (reviewed (rolesOf st) w (st .standing) .changed) (reviewed (rolesOf st) w (st .standing) .standing)
-    (reviewed-going (rolesOf st) w (st .standing) (lim .standing-below) .restores))
+    (reviewed-run (rolesOf st) w (st .standing) (lim .standing-below) .restores))
 
 -- ---- a freshly mined state
 

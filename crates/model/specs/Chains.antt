@@ -60,13 +60,13 @@ pub record Authorised (b : RoleRows) (u p : ℕ) : Type 0 where
 -- ---- what a role passes on by its links
 
 -- u is a direct member of role k, or of a role above it
-pub record Member (b : RoleRows) (k u : ℕ) : Type 0 where
+pub record HasMember (b : RoleRows) (k u : ℕ) : Type 0 where
   pub role : ℕ
   pub above : Reaches (link b) role k
   pub direct : So (has (b .members role) u)
 
 -- p is a direct permission of role k, or of a role below it
-pub record Holds (b : RoleRows) (k p : ℕ) : Type 0 where
+pub record HasPermission (b : RoleRows) (k p : ℕ) : Type 0 where
   pub role : ℕ
   pub below : Reaches (link b) k role
   pub direct : So (has (b .permissions role) p)

@@ -8,7 +8,7 @@ use Prim.Native.Nat.{ℕ, _+_, _*_, _<_}
 use lib.ListN.{getD}
 use Rattle.sets.specs.Sets.{has}
 use Rattle.model.specs.Lists.{setAt}
-use Rattle.model.specs.Chains.{link, Member, Holds}
+use Rattle.model.specs.Chains.{link, HasMember, HasPermission}
 use Rattle.model.specs.Record.{roleRowsOf}
 
 -- "8 + 4u: crew row of u, 4 words"
@@ -86,8 +86,8 @@ pub record BuiltRows (ws : List ℕ) : Type 0 where
 -- "each member of a role hold the permissions of that role and of every role below it", for every standing role k
 pub record Standard (ws : List ℕ) : Type 0 where
   -- the direct members of k and of the roles above it are A(k)
-  pub members : (k u : ℕ) → Stands ws k → Member (roleRowsOf ws) k u ↔ Serves ws k u
+  pub members : (k u : ℕ) → Stands ws k → HasMember (roleRowsOf ws) k u ↔ Serves ws k u
   -- the direct permissions of k and of the roles below it are S(k)
-  pub permissions : (k p : ℕ) → Stands ws k → Holds (roleRowsOf ws) k p ↔ So (has (roleSet ws k) p)
+  pub permissions : (k p : ℕ) → Stands ws k → HasPermission (roleRowsOf ws) k p ↔ So (has (roleSet ws k) p)
   -- each of the former holds each of the latter, by the crew list
-  pub held : (k u p : ℕ) → Stands ws k → Member (roleRowsOf ws) k u → Holds (roleRowsOf ws) k p → So (has (crewRow ws u) p)
+  pub held : (k u p : ℕ) → Stands ws k → HasMember (roleRowsOf ws) k u → HasPermission (roleRowsOf ws) k p → So (has (crewRow ws u) p)

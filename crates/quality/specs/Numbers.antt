@@ -27,19 +27,19 @@ toleranceOf a b = record { numerator = a; denominator = b }
 abbrev pub mostRoles : ℕ
 mostRoles = 128
 
-abbrev pub mostMembers : ℕ
-mostMembers = 16384
+abbrev pub mostDirectMembers : ℕ
+mostDirectMembers = 16384
 
-abbrev pub mostPermissions : ℕ
-mostPermissions = 32768
+abbrev pub mostDirectPermissions : ℕ
+mostDirectPermissions = 32768
 
 abbrev pub mostLinks : ℕ
 mostLinks = 16384
 
 pub record Few (q : Counts) : Type 0 where
   pub roles : q .roles ≤ mostRoles
-  pub members : q .members ≤ mostMembers
-  pub permissions : q .permissions ≤ mostPermissions
+  pub members : q .members ≤ mostDirectMembers
+  pub permissions : q .permissions ≤ mostDirectPermissions
   pub links : q .links ≤ mostLinks
 
 -- and the quality of such counts, with weights of at most 1,000

@@ -7,7 +7,7 @@ ghost use Rattle.sets.specs.Truth.{total};
 ghost use Rattle.model.specs.Lists.{setAt};
 ghost use Rattle.model.specs.Record.{recordLength, roleRowsOf};
 ghost use Rattle.model.specs.Quality as model;
-ghost use Rattle.quality.specs.Numbers.{countsIn, mostPermissions, mostLinks, Few};
+ghost use Rattle.quality.specs.Numbers.{countsIn, mostDirectPermissions, mostLinks, Few};
 use tables::JUNIORS;
 use tables::LENGTH;
 use tables::MEMBERS;
@@ -64,7 +64,7 @@ fn count256(table: &[u64], c: usize) -> usize
     requires { ⌜ c ≤ 128 ⌝ }
     requires { ⌜ 4 * c ≤ length (now table) ⌝ }
     ensures { λ r. ⌜ r ≡ total c (λ k. ones (setAt 4 (now (table .entry)) (4 * k))) ⌝ }
-    ensures { λ r. ⌜ r ≤ mostPermissions ⌝ }
+    ensures { λ r. ⌜ r ≤ mostDirectPermissions ⌝ }
 {
     let end = 4 * c;
     let mut n = 0;

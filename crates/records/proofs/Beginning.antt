@@ -29,7 +29,7 @@ use Rattle.mining.specs.declared.Mined.{Mined}
 use Rattle.mining.specs.declared.Mined.the-variants.{Count, TooMany}
 use Rattle.indexes.specs.Tables.{FillsFrom, SourceOf}
 use Rattle.indexes.proofs.Sources.{narrow}
-use Rattle.rows.specs.Partway.{Headed, Begun}
+use Rattle.rows.specs.Partway.{Headed, WithoutRows}
 use Rattle.records.specs.Records.{OnlyCandidates, MinesInto, Described}
 
 -- word j of the set that stands at a place
@@ -127,7 +127,7 @@ module _ (st : State) (ws crew : List ℕ) (at n m c r e : ℕ) (d : Described s
       behind (crewStart + 4 * u + j) (omega arith) ∙ o .rest (crewStart + 4 * u + j) (_⊎_.inl (omega arith)) ∙ sym (word-zero j)
       ∙ ap (λ (s : ℕ). word s j) (sym (List·getD-eq-default (st .rows) 0 far)))
 
-  pub begun : Begun st (putAt (putAt ws 0 (n ∷ m ∷ c ∷ 0 ∷ word r 0 ∷ word r 1 ∷ 0 ∷ 0 ∷ [])) crewStart (take (e - at) (drop at crew)))
+  pub begun : WithoutRows st (putAt (putAt ws 0 (n ∷ m ∷ c ∷ 0 ∷ word r 0 ∷ word r 1 ∷ 0 ∷ 0 ∷ [])) crewStart (take (e - at) (drop at crew)))
   unfolding permissionSet rolesOf
   begun =
       let b = few in

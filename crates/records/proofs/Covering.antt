@@ -25,14 +25,14 @@ use Rattle.hierarchy.proofs.Sieving.{lessAll-iff}
 use Rattle.indexes.specs.Index.{rolesStart, Indexed}
 use Rattle.indexes.specs.Tables.{Source}
 use Rattle.indexes.proofs.Sources.{numbered, source-set, source-count}
-use Rattle.records.specs.Records.{userRoles, userCovered}
+use Rattle.records.specs.Records.{userRoles, eachGrantCovered}
 
 -- ---- rows
 
 -- ---- coverage
 
-pub users-test : (st : State) → allCovered (rolesOf st) (st .standing) ≡ all (st .users) (userCovered st)
-unfolding allCovered userCovered rolesOf
+pub users-test : (st : State) → allCovered (rolesOf st) (st .standing) ≡ all (st .users) (eachGrantCovered st)
+unfolding allCovered eachGrantCovered rolesOf
 users-test st = refl
 
 module _ (st : State) (crew : List ℕ) (at n : ℕ) (table : List ℕ) (c : ℕ) (src : Source st crew at n table c) where
@@ -46,8 +46,8 @@ module _ (st : State) (crew : List ℕ) (at n : ℕ) (table : List ℕ) (c : ℕ
 
   -- nothing of the row is left without the maximal roles' sets exactly when each grant is covered
   pub user-test : (u x js : ℕ) → u < n → x ≡ getD (st .rows) u 0 → js ≡ maximal (rolesOf st) (userRoles st u)
-      → eqb (lessAll 4 table x js) 0 ≡ userCovered st u
-  unfolding userCovered grant rolesOf
+      → eqb (lessAll 4 table x js) 0 ≡ eachGrantCovered st u
+  unfolding eachGrantCovered grant rolesOf
   user-test u x js lu own ej =
       let ρ = rolesOf st in
       let s = userRoles st u in
@@ -98,8 +98,8 @@ module _ (st : State) (crew : List ℕ) (at n : ℕ) (table : List ℕ) (c : ℕ
       few _ = rw source-count' at (src .limits .candidates-most)
 
 pub users-counted : (st : State) (crew : List ℕ) (at n : ℕ) (table : List ℕ) (c : ℕ) → Source st crew at n table c
-    → allCovered (rolesOf st) (st .standing) ≡ all n (userCovered st)
-users-counted st crew at n table c src = users-test st ∙ ap (λ (k : ℕ). all k (userCovered st)) (src .users)
+    → allCovered (rolesOf st) (st .standing) ≡ all n (eachGrantCovered st)
+users-counted st crew at n table c src = users-test st ∙ ap (λ (k : ℕ). all k (eachGrantCovered st)) (src .users)
 
 pub own-roles-are : (st : State) (n : ℕ) → st .users ≡ n → (index : List ℕ) → Indexed (rolesOf st) index
     → (u x s r : ℕ) → u < n → x ≡ setAt 2 (take 256 (drop rolesStart index)) (2 * u) → s ≡ x ∩ r → r ≡ st .standing → s ≡ userRoles st u

@@ -43,5 +43,5 @@ unfoldable pub userRoles : State → ℕ → ℕ
 userRoles st u = rolesOfUser (rolesOf st) u ∩ st .standing
 
 -- each grant of one user is covered
-unfoldable pub userCovered : State → ℕ → Bool
-userCovered st u = all (st .permissions) (λ p. grant (rolesOf st) u p implies covered (rolesOf st) (st .standing) u p)
+unfoldable pub eachGrantCovered : State → ℕ → Bool
+eachGrantCovered st u = all (st .permissions) (λ p. grant (rolesOf st) u p implies covered (rolesOf st) (st .standing) u p)

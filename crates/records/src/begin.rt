@@ -13,8 +13,9 @@ ghost use Rattle.stores.specs.Stores.{putAt};
 ghost use Rattle.indexes.specs.Index.{indexLength};
 ghost use Rattle.indexes.specs.Tables.{FillsFrom};
 ghost use Rattle.rows.specs.Linked.{Ready};
-ghost use Rattle.rows.specs.Partway.{Begun};
+ghost use Rattle.rows.specs.Partway.{WithoutRows};
 ghost use Rattle.records.specs.Records.{OnlyCandidates, MinesInto, Described};
+ghost use Rattle.tables.specs.Tables.{table128Length};
 use indexes::fill_index;
 use mining::Mined;
 use mining::mine;
@@ -62,7 +63,7 @@ pub fn begin_record(
     requires { ⌜ length (now rec) ≡ recordLength ⌝ }
     requires { ⌜ at + 4 * n ≤ length (now crew) ⌝ }
     requires { ⌜ n ≤ 128 ⌝ }
-    ensures { λ r. ⌜ ((st : State) → Described st (now (crew .entry)) at n m c (set128 standing) → OnlyCandidates (now (rec .entry)) (candidates (st .rows)) → Begun st (now (rec .exit))) ⌝ }
+    ensures { λ r. ⌜ ((st : State) → Described st (now (crew .entry)) at n m c (set128 standing) → OnlyCandidates (now (rec .entry)) (candidates (st .rows)) → WithoutRows st (now (rec .exit))) ⌝ }
 {
     write_header(rec, n as u64, m, c as u64, standing);
     copy(rec, CREW, &crew[at..at + 4 * n]);
@@ -72,9 +73,9 @@ pub fn begin_record(
 pub fn complete_record(rec: &mut [u64], index: &mut [u64], seniors: &mut [u64])
     requires { ⌜ FillsFrom (now rec) crewStart ⌝ }
     requires { ⌜ length (now index) ≡ indexLength ⌝ }
-    requires { ⌜ length (now seniors) ≡ 256 ⌝ }
+    requires { ⌜ length (now seniors) ≡ table128Length ⌝ }
     requires { ⌜ ((i : ℕ) → getD (now seniors) i 0 ≡ 0) ⌝ }
-    ensures { λ r. ⌜ ((st : State) → Limits st → Begun st (now (rec .entry)) → Ready st (now (rec .exit)) (now (index .exit)) (now (seniors .exit))) ⌝ }
+    ensures { λ r. ⌜ ((st : State) → Limits st → WithoutRows st (now (rec .entry)) → Ready st (now (rec .exit)) (now (index .exit)) (now (seniors .exit))) ⌝ }
 {
     fill_index(rec, CREW, index);
     build_rows(rec, index, seniors);

@@ -12,6 +12,7 @@ ghost use Rattle.model.specs.State.{rolesOf, withinLimits, rowsWithin};
 ghost use Rattle.indexes.specs.Index.{indexLength};
 ghost use Rattle.rows.specs.Linked.{Ready};
 ghost use Rattle.records.specs.Records.{OnlyCandidates};
+ghost use Rattle.tables.specs.Tables.{table128Length};
 use crate::begin::begin_record;
 use crate::begin::complete_record;
 use crate::begin::mine_record;
@@ -22,7 +23,7 @@ use sets::Set128;
 use tables::CREW;
 use tables::LENGTH;
 use tables::STANDING;
-use tables::holds;
+use tables::equal_at;
 use tables::limits_kept;
 use tables::load128;
 use tables::rows_within;
@@ -48,7 +49,7 @@ fn matches(rec: &[u64], c: usize, image: &mut [u64], index: &mut [u64], seniors:
     requires { ⌜ candidateCount (rolesOf (stateOf (now rec))) ≡ c ⌝ }
     requires { ⌜ OnlyCandidates (now image) (candidates (stateOf (now rec) .rows)) ⌝ }
     requires { ⌜ length (now index) ≡ indexLength ⌝ }
-    requires { ⌜ length (now seniors) ≡ 256 ⌝ }
+    requires { ⌜ length (now seniors) ≡ table128Length ⌝ }
     requires { ⌜ ((i : ℕ) → getD (now seniors) i 0 ≡ 0) ⌝ }
     ensures { λ r. ⌜ r ≡ sound (now (rec .entry)) ⌝ }
     ensures { λ r. ⌜ (So (sound (now (rec .entry))) → Ready (stateOf (now (rec .entry))) (now (rec .entry)) (now (index .exit)) (now (seniors .exit))) ⌝ }
@@ -59,14 +60,14 @@ fn matches(rec: &[u64], c: usize, image: &mut [u64], index: &mut [u64], seniors:
     if !all_covered(image, index) {
         return false;
     }
-    holds(rec, 0, image)
+    equal_at(rec, 0, image)
 }
 
 // Whether the record is sound: one mining and one building, and a comparison. Where it is, `index` and `seniors` hold what is computed beside it.
 pub fn is_sound(rec: &[u64], index: &mut [u64], seniors: &mut [u64]) -> bool
     requires { ⌜ length (now rec) ≡ recordLength ⌝ }
     requires { ⌜ length (now index) ≡ indexLength ⌝ }
-    requires { ⌜ length (now seniors) ≡ 256 ⌝ }
+    requires { ⌜ length (now seniors) ≡ table128Length ⌝ }
     requires { ⌜ ((i : ℕ) → getD (now seniors) i 0 ≡ 0) ⌝ }
     ensures { λ r. ⌜ r ≡ sound (now (rec .entry)) ⌝ }
     ensures { λ r. ⌜ (So (sound (now (rec .entry))) → Ready (stateOf (now (rec .entry))) (now (rec .entry)) (now (index .exit)) (now (seniors .exit))) ⌝ }

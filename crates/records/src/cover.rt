@@ -9,7 +9,8 @@ ghost use Rattle.model.specs.Record.{recordLength, crewStart};
 ghost use Rattle.model.specs.State.{State, rolesOf};
 ghost use Rattle.indexes.specs.Index.{indexLength, LowerRoles, Indexed};
 ghost use Rattle.indexes.specs.Tables.{Source, SourceOf};
-ghost use Rattle.records.specs.Records.{userRoles, userCovered};
+ghost use Rattle.records.specs.Records.{userRoles, eachGrantCovered};
+ghost use Rattle.tables.specs.Tables.{table256Length};
 use hierarchy::less256;
 use hierarchy::maximal_of;
 use indexes::LOWER;
@@ -26,9 +27,9 @@ use tables::load256;
 
 // Whether the standing roles of a user hold all of the user's row. The highest of them hold all that those below them do.
 fn user_covered(table: &[u64], index: &[u64], roles: Set128, row: Set256) -> bool
-    requires { ⌜ length (now table) ≡ 512 ⌝ }
+    requires { ⌜ length (now table) ≡ table256Length ⌝ }
     requires { ⌜ length (now index) ≡ indexLength ⌝ }
-    ensures { λ r. ⌜ ((st : State) (crew : List ℕ) (at n c u : ℕ) → Source st crew at n (now (table .entry)) c → LowerRoles (rolesOf st) (now (index .entry)) → u < n → set256 row ≡ getD (st .rows) u 0 → set128 roles ≡ userRoles st u → r ≡ userCovered st u) ⌝ }
+    ensures { λ r. ⌜ ((st : State) (crew : List ℕ) (at n c u : ℕ) → Source st crew at n (now (table .entry)) c → LowerRoles (rolesOf st) (now (index .entry)) → u < n → set256 row ≡ getD (st .rows) u 0 → set128 roles ≡ userRoles st u → r ≡ eachGrantCovered st u) ⌝ }
 {
     less256(table, row, maximal_of(&index[LOWER..ROLES], roles)).is_empty()
 }

@@ -16,12 +16,12 @@ use Rattle.model.proofs.Steps.{now-same}
 use Rattle.tables.specs.Tables.{Filled}
 use Rattle.indexes.specs.Index.{Indexed}
 use Rattle.rows.specs.Linked.{Linked}
-use Rattle.rows.specs.Partway.{Partway, Begun, Target}
+use Rattle.rows.specs.Partway.{Partway, WithoutRows, Target}
 use Rattle.rows.proofs.Partway.{noRows, marks, begun, finished}
 use Rattle.rows.proofs.Linking.{columns-turned}
 use Rattle.rows.proofs.Rewriting.{target-below, now-juniors}
 
-module _ (st : State) (lim : Limits st) (index first : List ℕ) (b : Begun st first) (ix : Indexed (rolesOf st) index) where
+module _ (st : State) (lim : Limits st) (index first : List ℕ) (b : WithoutRows st first) (ix : Indexed (rolesOf st) index) where
   count-told : candidateCount (rolesOf st) ≡ getD first 2 0
   unfolding headerWord
   count-told = sym (b .headed .head 2 (omega arith))

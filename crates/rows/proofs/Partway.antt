@@ -22,7 +22,7 @@ use Rattle.stores.specs.Stores.{putAt}
 use Rattle.tables.specs.Stores.{wordsOf}
 use Rattle.stores.proofs.Stores.{length-putAt, putAt-below, putAt-above}
 use Rattle.tables.proofs.Stores.{length-wordsOf, stored-word}
-use Rattle.rows.specs.Partway.{still, Headed, Partway, Differ, Begun}
+use Rattle.rows.specs.Partway.{still, Headed, Partway, Differ, WithoutRows}
 use Rattle.rows.proofs.Regions.{still-all, still-done, still-other, still-none, region-stored, region-before, region-after}
 
 -- ---- one row
@@ -147,7 +147,7 @@ module _ (st : State) (R s t : ℕ) (ws : List ℕ) (e : ws ≡ built st) where
 abbrev pub noRows : RoleRows
 noRows = record { juniors = λ k. 0; permissions = λ k. 0; members = λ k. 0 }
 
-pub begun : (st : State) (ws : List ℕ) → Begun st ws → Partway noRows st (st .standing) (st .standing) (st .standing) ws
+pub begun : (st : State) (ws : List ℕ) → WithoutRows st ws → Partway noRows st (st .standing) (st .standing) (st .standing) ws
 begun st ws b =
     let ρ = rolesOf st in
     let R = st .standing in

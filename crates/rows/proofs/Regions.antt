@@ -19,7 +19,7 @@ use Rattle.model.specs.Lists.{setAt}
 use Rattle.model.proofs.Lists.{setAt-words}
 use Rattle.stores.specs.Stores.{putAt}
 use Rattle.tables.specs.Stores.{wordsOf}
-use Rattle.tables.specs.Tables.{Holds}
+use Rattle.tables.specs.Tables.{HoldsSets}
 use Rattle.stores.proofs.Stores.{putAt-below, putAt-above}
 use Rattle.tables.proofs.Stores.{length-wordsOf, stored-word}
 use Rattle.rows.specs.Partway.{still, Region}
@@ -88,7 +88,7 @@ region-after w start f ws at v x far h k j lk lj =
 
 -- a region as a table of its own
 pub region-holds : (w start c n : ℕ) (f : ℕ → ℕ) (ws : List ℕ) → n ≡ w * 128 → c ≤ 128 → ((k : ℕ) → k < c → f k < 2 ^ (64 * w)) → Region w start f ws
-    → Holds w c f (take n (drop start ws))
+    → HoldsSets w c f (take n (drop start ws))
 region-holds w start c n f ws size few small h k l =
     let lk = lt-of-lt-of-le l few in
     setAt-words w (f k) (take n (drop start ws)) (w * k) (small k l)

@@ -24,7 +24,7 @@ use Rattle.model.proofs.Lists.{setAt-same}
 use Rattle.model.proofs.Record.{juniors-small}
 use Rattle.stores.specs.Stores.{putAt}
 use Rattle.tables.specs.Stores.{wordsOf}
-use Rattle.tables.specs.Tables.{Holds}
+use Rattle.tables.specs.Tables.{HoldsSets}
 use Rattle.hierarchy.specs.Tables.{Numbered, Narrow, immediateSeniors}
 use Rattle.indexes.specs.Index.{LowerRoles, RoleUsers}
 use Rattle.indexes.proofs.Sources.{numbered, narrow}
@@ -46,7 +46,7 @@ module _ (old : RoleRows) (st : State) (p t R : ℕ) (index ws : List ℕ) (to :
 
   pub upper-rewritten : (s i js ps : ℕ) (mid after : List ℕ) → i < 128
       → ((ρ : Roles) → Numbered ρ → LowerRoles ρ index → R < 2 ^ candidateCount ρ → js ≡ immediateJuniors ρ R i)
-      → ((ρ : Roles) → Numbered ρ → Narrow ρ → Holds 4 (candidateCount ρ) (permissionSet ρ) (take 512 (drop setsStart ws)) → R < 2 ^ candidateCount ρ → js ≡ immediateJuniors ρ R i → ps ≡ directPermissions ρ R i)
+      → ((ρ : Roles) → Numbered ρ → Narrow ρ → HoldsSets 4 (candidateCount ρ) (permissionSet ρ) (take 512 (drop setsStart ws)) → R < 2 ^ candidateCount ρ → js ≡ immediateJuniors ρ R i → ps ≡ directPermissions ρ R i)
       → mid ≡ putAt ws (juniorsStart + 2 * i) (wordsOf 2 js) → after ≡ putAt mid (permissionsStart + 4 * i) (wordsOf 4 ps)
       → Partway old st s p t ws → Partway old st (s ∖ single i) (p ∖ single i) t after
   upper-rewritten s i js ps mid after li juniors permissions em ea q =

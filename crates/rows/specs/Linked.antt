@@ -9,6 +9,7 @@ use Rattle.model.specs.Lists.{setAt}
 use Rattle.model.specs.Record.{juniorsStart, built, Limits}
 use Rattle.model.specs.State.{State, rolesOf}
 use Rattle.indexes.specs.Index.{Indexed}
+use Rattle.tables.specs.Tables.{table128Length}
 
 -- entry j of the table holds i exactly where the set of i holds j
 abbrev pub Turned : (ℕ → ℕ) → List ℕ → Type 0
@@ -20,7 +21,7 @@ juniorsIn ws i = setAt 2 ws (juniorsStart + 2 * i)
 
 -- the table holds the immediate seniors of each role, by the record's own immediate juniors, whatever standing set these are of
 pub record Linked (ws seniors : List ℕ) : Type 0 where
-  pub size : length seniors ≡ 256
+  pub size : length seniors ≡ table128Length
   pub turned : Turned (juniorsIn ws) seniors
 
 -- the record built afresh from a state, with its index and its immediate seniors

@@ -37,7 +37,7 @@ pub record Partway (old : RoleRows) (st : State) (s p t : ℕ) (ws : List ℕ) :
   pub juniors : Region 2 juniorsStart (still s (old .juniors) (immediateJuniors (rolesOf st) (st .standing))) ws
 
 -- a record to be built afresh from a state: all that is no role's row is there, and the rows are zero
-pub record Begun (st : State) (ws : List ℕ) : Type 0 where
+pub record WithoutRows (st : State) (ws : List ℕ) : Type 0 where
   pub headed : Headed st ws
   pub zero : (i : ℕ) → permissionsStart ≤ i → i < recordLength → getD ws i 0 ≡ 0
 

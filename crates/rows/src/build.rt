@@ -6,7 +6,8 @@ ghost use Rattle.model.specs.Record.{recordLength, built, Limits};
 ghost use Rattle.model.specs.State.{State, rolesOf};
 ghost use Rattle.indexes.specs.Index.{indexLength, Indexed};
 ghost use Rattle.rows.specs.Linked.{Linked};
-ghost use Rattle.rows.specs.Partway.{Begun};
+ghost use Rattle.rows.specs.Partway.{WithoutRows};
+ghost use Rattle.tables.specs.Tables.{table128Length};
 use crate::lower::fill_lowers;
 use crate::upper::fill_uppers;
 use columns::fill_columns;
@@ -19,10 +20,10 @@ use tables::load128;
 pub fn build_rows(rec: &mut [u64], index: &[u64], seniors: &mut [u64])
     requires { ⌜ length (now rec) ≡ recordLength ⌝ }
     requires { ⌜ length (now index) ≡ indexLength ⌝ }
-    requires { ⌜ length (now seniors) ≡ 256 ⌝ }
+    requires { ⌜ length (now seniors) ≡ table128Length ⌝ }
     requires { ⌜ ((i : ℕ) → getD (now seniors) i 0 ≡ 0) ⌝ }
     requires { ⌜ getD (now rec) 2 0 ≤ 128 ⌝ }
-    ensures { λ r. ⌜ ((st : State) → Limits st → Begun st (now (rec .entry)) → Indexed (rolesOf st) (now (index .entry)) → (now (rec .exit) ≡ built st) × Linked (now (rec .exit)) (now (seniors .exit))) ⌝ }
+    ensures { λ r. ⌜ ((st : State) → Limits st → WithoutRows st (now (rec .entry)) → Indexed (rolesOf st) (now (index .entry)) → (now (rec .exit) ≡ built st) × Linked (now (rec .exit)) (now (seniors .exit))) ⌝ }
 {
     let c = rec[2] as usize;
     let standing = load128(rec, STANDING);

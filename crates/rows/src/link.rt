@@ -12,6 +12,7 @@ ghost use Rattle.model.specs.State.{State};
 ghost use Rattle.indexes.specs.Index.{indexLength};
 ghost use Rattle.rows.specs.Linked.{Turned, Linked};
 ghost use Rattle.rows.specs.Partway.{Partway, Target};
+ghost use Rattle.tables.specs.Tables.{table128Length};
 use crate::upper::rewrite_upper;
 use hierarchy::lowest_item;
 use sets::Set128;
@@ -33,7 +34,7 @@ fn with_or_without(s: Set128, i: usize, with: bool) -> Set128
 // Where the juniors of role i were `old` and are `new`, it becomes a senior of those that it gained and none of those that it lost. The others'
 // entries are as they were.
 fn relink(seniors: &mut [u64], i: usize, old: Set128, new: Set128)
-    requires { ⌜ length (now seniors) ≡ 256 ⌝ }
+    requires { ⌜ length (now seniors) ≡ table128Length ⌝ }
     requires { ⌜ i < 128 ⌝ }
     ensures { λ r. ⌜ ((f g : ℕ → ℕ) → Turned f (now (seniors .entry)) → set128 old ≡ f i → set128 new ≡ g i → ((a : ℕ) → a < 128 → a ≢ i → g a ≡ f a) → Turned g (now (seniors .exit))) ⌝ }
 {
@@ -50,7 +51,7 @@ fn relink(seniors: &mut [u64], i: usize, old: Set128, new: Set128)
 fn relink_upper(rec: &mut [u64], index: &[u64], seniors: &mut [u64], standing: Set128, i: usize)
     requires { ⌜ length (now rec) ≡ recordLength ⌝ }
     requires { ⌜ length (now index) ≡ indexLength ⌝ }
-    requires { ⌜ length (now seniors) ≡ 256 ⌝ }
+    requires { ⌜ length (now seniors) ≡ table128Length ⌝ }
     requires { ⌜ i < 128 ⌝ }
     ensures { λ r. ⌜ ((old : RoleRows) (st : State) (s p t : ℕ) → Target st (set128 standing) (now (index .entry)) → Partway old st s p t (now (rec .entry)) → Linked (now (rec .entry)) (now (seniors .entry)) → Partway old st (s ∖ single i) (p ∖ single i) t (now (rec .exit)) × Linked (now (rec .exit)) (now (seniors .exit))) ⌝ }
 {
@@ -70,7 +71,7 @@ pub fn relink_uppers(
 )
     requires { ⌜ length (now rec) ≡ recordLength ⌝ }
     requires { ⌜ length (now index) ≡ indexLength ⌝ }
-    requires { ⌜ length (now seniors) ≡ 256 ⌝ }
+    requires { ⌜ length (now seniors) ≡ table128Length ⌝ }
     ensures { λ r. ⌜ ((old : RoleRows) (st : State) (t : ℕ) → Target st (set128 standing) (now (index .entry)) → Partway old st (set128 roles) (set128 roles) t (now (rec .entry)) → Linked (now (rec .entry)) (now (seniors .entry)) → Partway old st 0 0 t (now (rec .exit)) × Linked (now (rec .exit)) (now (seniors .exit))) ⌝ }
 {
     let mut rest = roles;

@@ -10,6 +10,7 @@ ghost use Rattle.model.specs.State.{State, rolesOf};
 ghost use Rattle.indexes.specs.Index.{indexLength};
 ghost use Rattle.rows.specs.Linked.{Linked};
 ghost use Rattle.rows.specs.Partway.{Partway, Target};
+ghost use Rattle.tables.specs.Tables.{table128Length};
 use hierarchy::lowest_item;
 use hierarchy::members_of;
 use indexes::HOLDERS;
@@ -23,7 +24,7 @@ use tables::store128;
 fn rewrite_lower(rec: &mut [u64], index: &[u64], seniors: &[u64], standing: Set128, j: usize)
     requires { ⌜ length (now rec) ≡ recordLength ⌝ }
     requires { ⌜ length (now index) ≡ indexLength ⌝ }
-    requires { ⌜ length (now seniors) ≡ 256 ⌝ }
+    requires { ⌜ length (now seniors) ≡ table128Length ⌝ }
     requires { ⌜ j < 128 ⌝ }
     ensures { λ r. ⌜ ((old : RoleRows) (st : State) (p t : ℕ) → Target st (set128 standing) (now (index .entry)) → Linked (now (rec .entry)) (now (seniors .entry)) → Partway old st 0 p t (now (rec .entry)) → Partway old st 0 p (t ∖ single j) (now (rec .exit))) ⌝ }
 {
@@ -42,7 +43,7 @@ pub fn rewrite_lowers(
 )
     requires { ⌜ length (now rec) ≡ recordLength ⌝ }
     requires { ⌜ length (now index) ≡ indexLength ⌝ }
-    requires { ⌜ length (now seniors) ≡ 256 ⌝ }
+    requires { ⌜ length (now seniors) ≡ table128Length ⌝ }
     ensures { λ r. ⌜ ((old : RoleRows) (st : State) (p : ℕ) → Target st (set128 standing) (now (index .entry)) → Linked (now (rec .entry)) (now (seniors .entry)) → Partway old st 0 p (set128 roles) (now (rec .entry)) → Partway old st 0 p 0 (now (rec .exit)) × Linked (now (rec .exit)) (now (seniors .entry))) ⌝ }
 {
     let mut rest = roles;
@@ -57,7 +58,7 @@ pub fn rewrite_lowers(
 pub fn fill_lowers(rec: &mut [u64], index: &[u64], seniors: &[u64], standing: Set128, c: usize)
     requires { ⌜ length (now rec) ≡ recordLength ⌝ }
     requires { ⌜ length (now index) ≡ indexLength ⌝ }
-    requires { ⌜ length (now seniors) ≡ 256 ⌝ }
+    requires { ⌜ length (now seniors) ≡ table128Length ⌝ }
     requires { ⌜ c ≤ 128 ⌝ }
     ensures { λ r. ⌜ ((old : RoleRows) (st : State) (p : ℕ) → Target st (set128 standing) (now (index .entry)) → candidateCount (rolesOf st) ≡ c → Linked (now (rec .entry)) (now (seniors .entry)) → Partway old st 0 p (set128 standing) (now (rec .entry)) → Partway old st 0 p 0 (now (rec .exit)) × Linked (now (rec .exit)) (now (seniors .entry))) ⌝ }
 {

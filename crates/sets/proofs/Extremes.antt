@@ -17,7 +17,7 @@ use Rattle.sets.specs.declared.item.Item.the-variants.{At, Nothing}
 use Rattle.sets.specs.Truth.{if_then_else_}
 use Rattle.sets.specs.Sets.{has}
 use Rattle.sets.specs.Words.{value}
-use Rattle.sets.specs.Extremes.{_orElse_, itemAt, lowest, highest}
+use Rattle.sets.specs.Extremes.{_otherwise_, itemAt, lowest, highest}
 use Rattle.sets.proofs.Truth.{by-test, So-not, eqb-iff, either, equal-or, below-suc, if-true, if-false}
 use Rattle.sets.proofs.Items.{digit, has-zero, has-first, has-rest, has-low, has-above, item-below, empty-of}
 use Rattle.sets.proofs.Words.{Words, has-shift}
@@ -32,21 +32,21 @@ no-item : (s n : ℕ) → has s n ≡ false → itemAt s n ≡ Nothing
 unfolding itemAt
 no-item s n h = if-false (has s n) (At n) Nothing h
 
-orElse-nothing : (a : Item) → (a orElse Nothing) ≡ a
-unfolding _orElse_
+orElse-nothing : (a : Item) → (a otherwise Nothing) ≡ a
+unfolding _otherwise_
 orElse-nothing (At i) = refl
 orElse-nothing Nothing = refl
 
-nothing-orElse : (a : Item) → (Nothing orElse a) ≡ a
-unfolding _orElse_
+nothing-orElse : (a : Item) → (Nothing otherwise a) ≡ a
+unfolding _otherwise_
 nothing-orElse a = refl
 
-at-orElse : (i : ℕ) (a : Item) → (At i orElse a) ≡ At i
-unfolding _orElse_
+at-orElse : (i : ℕ) (a : Item) → (At i otherwise a) ≡ At i
+unfolding _otherwise_
 at-orElse i a = refl
 
-orElse-assoc : (a b c : Item) → (a orElse b orElse c) ≡ (a orElse (b orElse c))
-unfolding _orElse_
+orElse-assoc : (a b c : Item) → (a otherwise b otherwise c) ≡ (a otherwise (b otherwise c))
+unfolding _otherwise_
 orElse-assoc (At i) b c = refl
 orElse-assoc Nothing b c = refl
 
@@ -62,29 +62,29 @@ pub lowest-none : (n s : ℕ) → ((i : ℕ) → i < n → has s i ≡ false) �
 unfolding lowest
 lowest-none zero s h = refl
 lowest-none (suc n) s h =
-    ap₂ _orElse_ (lowest-none n s (λ i l. h i (le-step l))) (no-item s n (h n (lt-suc-self n))) ∙ orElse-nothing Nothing
+    ap₂ _otherwise_ (lowest-none n s (λ i l. h i (le-step l))) (no-item s n (h n (lt-suc-self n))) ∙ orElse-nothing Nothing
 
 pub highest-none : (n s : ℕ) → ((i : ℕ) → i < n → has s i ≡ false) → highest n s ≡ Nothing
 unfolding highest
 highest-none zero s h = refl
 highest-none (suc n) s h =
-    ap₂ _orElse_ (no-item s n (h n (lt-suc-self n))) (highest-none n s (λ i l. h i (le-step l))) ∙ orElse-nothing Nothing
+    ap₂ _otherwise_ (no-item s n (h n (lt-suc-self n))) (highest-none n s (λ i l. h i (le-step l))) ∙ orElse-nothing Nothing
 
 pub lowest-of : (n s i : ℕ) → i < n → So (has s i) → ((j : ℕ) → j < i → has s j ≡ false) → lowest n s ≡ At i
 unfolding lowest
 lowest-of zero s i l t f = absurd (not-suc-le-zero l)
 lowest-of (suc n) s i l t f =
     below-suc i n l
-    (λ (e : i ≡ n). rw (← e) (ap₂ _orElse_ (lowest-none i s f) (item-at s i t) ∙ nothing-orElse (At i)))
-    (λ b. ap (λ (x : Item). x orElse itemAt s n) (lowest-of n s i b t f) ∙ at-orElse i (itemAt s n))
+    (λ (e : i ≡ n). rw (← e) (ap₂ _otherwise_ (lowest-none i s f) (item-at s i t) ∙ nothing-orElse (At i)))
+    (λ b. ap (λ (x : Item). x otherwise itemAt s n) (lowest-of n s i b t f) ∙ at-orElse i (itemAt s n))
 
 pub highest-of : (n s i : ℕ) → i < n → So (has s i) → ((j : ℕ) → i < j → j < n → has s j ≡ false) → highest n s ≡ At i
 unfolding highest
 highest-of zero s i l t f = absurd (not-suc-le-zero l)
 highest-of (suc n) s i l t f =
     below-suc i n l
-    (λ (e : i ≡ n). rw (← e) (ap (λ (x : Item). x orElse highest i s) (item-at s i t) ∙ at-orElse i (highest i s)))
-    (λ b. ap (λ (x : Item). x orElse highest n s) (no-item s n (f n b (lt-suc-self n))) ∙ nothing-orElse (highest n s) ∙ highest-of n s i b t (λ j p q. f j p (le-step q)))
+    (λ (e : i ≡ n). rw (← e) (ap (λ (x : Item). x otherwise highest i s) (item-at s i t) ∙ at-orElse i (highest i s)))
+    (λ b. ap (λ (x : Item). x otherwise highest n s) (no-item s n (f n b (lt-suc-self n))) ∙ nothing-orElse (highest n s) ∙ highest-of n s i b t (λ j p q. f j p (le-step q)))
 
 -- sets that have the same items below n have the same extremes there
 item-same : (s t n : ℕ) → has s n ≡ has t n → itemAt s n ≡ itemAt t n
@@ -94,12 +94,12 @@ item-same s t n e = rw e refl
 lowest-same : (n s t : ℕ) → ((i : ℕ) → i < n → has s i ≡ has t i) → lowest n s ≡ lowest n t
 unfolding lowest
 lowest-same zero s t h = refl
-lowest-same (suc n) s t h = ap₂ _orElse_ (lowest-same n s t (λ i l. h i (le-step l))) (item-same s t n (h n (lt-suc-self n)))
+lowest-same (suc n) s t h = ap₂ _otherwise_ (lowest-same n s t (λ i l. h i (le-step l))) (item-same s t n (h n (lt-suc-self n)))
 
 highest-same : (n s t : ℕ) → ((i : ℕ) → i < n → has s i ≡ has t i) → highest n s ≡ highest n t
 unfolding highest
 highest-same zero s t h = refl
-highest-same (suc n) s t h = ap₂ _orElse_ (item-same s t n (h n (lt-suc-self n))) (highest-same n s t (λ i l. h i (le-step l)))
+highest-same (suc n) s t h = ap₂ _otherwise_ (item-same s t n (h n (lt-suc-self n))) (highest-same n s t (λ i l. h i (le-step l)))
 
 -- ---- from the answer to the items
 
@@ -184,8 +184,8 @@ abbrev moved : ℕ → Item → Item
 moved k (At i) = At (k + i)
 moved k Nothing = Nothing
 
-moved-orElse : (k : ℕ) (a b : Item) → moved k (a orElse b) ≡ (moved k a orElse moved k b)
-unfolding _orElse_
+moved-orElse : (k : ℕ) (a b : Item) → moved k (a otherwise b) ≡ (moved k a otherwise moved k b)
+unfolding _otherwise_
 moved-orElse k (At i) b = refl
 moved-orElse k Nothing b = refl
 
@@ -210,21 +210,21 @@ module _ (k X w : ℕ) (h : w < 2 ^ k) where
       (λ t. item-at (X * 2 ^ k + w) (k + i) (has-upper i ∙ t) ∙ ap (moved k) (sym (item-at X i t)))
       (λ t. no-item (X * 2 ^ k + w) (k + i) (has-upper i ∙ t) ∙ ap (moved k) (sym (no-item X i t)))
 
-  lowest-parts : (n : ℕ) → lowest (k + n) (X * 2 ^ k + w) ≡ (lowest k w orElse moved k (lowest n X))
+  lowest-parts : (n : ℕ) → lowest (k + n) (X * 2 ^ k + w) ≡ (lowest k w otherwise moved k (lowest n X))
   unfolding lowest
   lowest-parts zero = rw (add-zero k) (lowest-same k (X * 2 ^ k + w) w has-lower ∙ sym (orElse-nothing (lowest k w)))
   lowest-parts (suc n) =
       rw (add-suc k n)
-      (ap₂ _orElse_ (lowest-parts n) (upper-item n) ∙ orElse-assoc (lowest k w) (moved k (lowest n X)) (moved k (itemAt X n))
-      ∙ ap (λ (x : Item). lowest k w orElse x) (sym (moved-orElse k (lowest n X) (itemAt X n))))
+      (ap₂ _otherwise_ (lowest-parts n) (upper-item n) ∙ orElse-assoc (lowest k w) (moved k (lowest n X)) (moved k (itemAt X n))
+      ∙ ap (λ (x : Item). lowest k w otherwise x) (sym (moved-orElse k (lowest n X) (itemAt X n))))
 
-  highest-parts : (n : ℕ) → highest (k + n) (X * 2 ^ k + w) ≡ (moved k (highest n X) orElse highest k w)
+  highest-parts : (n : ℕ) → highest (k + n) (X * 2 ^ k + w) ≡ (moved k (highest n X) otherwise highest k w)
   unfolding highest
   highest-parts zero = rw (add-zero k) (highest-same k (X * 2 ^ k + w) w has-lower ∙ sym (nothing-orElse (highest k w)))
   highest-parts (suc n) =
       rw (add-suc k n)
-      (ap₂ _orElse_ (upper-item n) (highest-parts n) ∙ sym (orElse-assoc (moved k (itemAt X n)) (moved k (highest n X)) (highest k w))
-      ∙ ap (λ (x : Item). x orElse highest k w) (sym (moved-orElse k (itemAt X n) (highest n X))))
+      (ap₂ _otherwise_ (upper-item n) (highest-parts n) ∙ sym (orElse-assoc (moved k (itemAt X n)) (moved k (highest n X)) (highest k w))
+      ∙ ap (λ (x : Item). x otherwise highest k w) (sym (moved-orElse k (itemAt X n) (highest n X))))
 
 -- ---- one word
 
@@ -282,8 +282,8 @@ abbrev pub highestFrom : ℕ → Item → List ℕ → Item
 highestFrom at below [] = below
 highestFrom at below (w ∷ ws) = highestFrom (at + 64) (if eqb w 0 then below else At (at + (63 - leadingZeros 64 w))) ws
 
-in-word : (at i : ℕ) (a : Item) (t : Bool) → (moved at (if t then Nothing else At i) orElse a) ≡ (if t then a else At (at + i))
-unfolding _orElse_ if_then_else_
+in-word : (at i : ℕ) (a : Item) (t : Bool) → (moved at (if t then Nothing else At i) otherwise a) ≡ (if t then a else At (at + i))
+unfolding _otherwise_ if_then_else_
 in-word at i a true = refl
 in-word at i a false = refl
 
@@ -295,24 +295,24 @@ unfolding value lowest
 lowest-from at [] h = refl
 lowest-from at (w ∷ ws) h =
     let rest : Item = lowest (64 * length ws) (value ws) in
-    let whole : lowest (64 * suc (length ws)) (value ws * 2 ^ 64 + w) ≡ (lowest 64 w orElse moved 64 rest) =
+    let whole : lowest (64 * suc (length ws)) (value ws * 2 ^ 64 + w) ≡ (lowest 64 w otherwise moved 64 rest) =
     ap (λ (n : ℕ). lowest n (value ws * 2 ^ 64 + w)) (wider (length ws)) ∙ lowest-parts 64 (value ws) w (h 0) (64 * length ws) in
     sym (in-word at (trailingZeros 64 w) (lowestFrom (at + 64) ws) (eqb w 0))
-    ∙ ap₂ (λ (a b : Item). moved at a orElse b) (sym (lowest-word 64 w (h 0))) (lowest-from (at + 64) ws (λ i. h (suc i)) ∙ sym (moved-moved at 64 rest))
+    ∙ ap₂ (λ (a b : Item). moved at a otherwise b) (sym (lowest-word 64 w (h 0))) (lowest-from (at + 64) ws (λ i. h (suc i)) ∙ sym (moved-moved at 64 rest))
     ∙ sym (moved-orElse at (lowest 64 w) (moved 64 rest)) ∙ ap (moved at) (sym whole)
 
-highest-from : (at : ℕ) (below : Item) (ws : List ℕ) → Words ws → highestFrom at below ws ≡ (moved at (highest (64 * length ws) (value ws)) orElse below)
+highest-from : (at : ℕ) (below : Item) (ws : List ℕ) → Words ws → highestFrom at below ws ≡ (moved at (highest (64 * length ws) (value ws)) otherwise below)
 unfolding value highest
 highest-from at below [] h = sym (nothing-orElse below)
 highest-from at below (w ∷ ws) h =
     let rest : Item = highest (64 * length ws) (value ws) in
     let top : ℕ = 63 - leadingZeros 64 w in
-    let whole : highest (64 * suc (length ws)) (value ws * 2 ^ 64 + w) ≡ (moved 64 rest orElse highest 64 w) =
+    let whole : highest (64 * suc (length ws)) (value ws * 2 ^ 64 + w) ≡ (moved 64 rest otherwise highest 64 w) =
     ap (λ (n : ℕ). highest n (value ws * 2 ^ 64 + w)) (wider (length ws)) ∙ highest-parts 64 (value ws) w (h 0) (64 * length ws) in
     highest-from (at + 64) (if eqb w 0 then below else At (at + top)) ws (λ i. h (suc i))
-    ∙ ap₂ _orElse_ (sym (moved-moved at 64 rest)) (sym (in-word at top below (eqb w 0)) ∙ ap (λ (a : Item). moved at a orElse below) (sym (highest-word 64 w (h 0))))
+    ∙ ap₂ _otherwise_ (sym (moved-moved at 64 rest)) (sym (in-word at top below (eqb w 0)) ∙ ap (λ (a : Item). moved at a otherwise below) (sym (highest-word 64 w (h 0))))
     ∙ sym (orElse-assoc (moved at (moved 64 rest)) (moved at (highest 64 w)) below)
-    ∙ ap (λ (a : Item). a orElse below) (sym (moved-orElse at (moved 64 rest) (highest 64 w)) ∙ ap (moved at) (sym whole))
+    ∙ ap (λ (a : Item). a otherwise below) (sym (moved-orElse at (moved 64 rest) (highest 64 w)) ∙ ap (moved at) (sym whole))
 
 pub value-lowest : (ws : List ℕ) → Words ws → lowestFrom 0 ws ≡ lowest (64 * length ws) (value ws)
 value-lowest ws h = lowest-from 0 ws h ∙ moved-none (lowest (64 * length ws) (value ws))

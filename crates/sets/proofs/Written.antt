@@ -41,15 +41,15 @@ fits-lt f = f .fits
 pub ruleset words = (needs, fits-lt)
 
 -- the n elements from place i on, written out
-abbrev pub elems : ℕ → ℕ → List ℕ → List ℕ
-elems i zero ws = []
-elems i (suc n) ws = getD ws i 0 ∷ elems (suc i) n ws
+abbrev pub elementsFrom : ℕ → ℕ → List ℕ → List ℕ
+elementsFrom i zero ws = []
+elementsFrom i (suc n) ws = getD ws i 0 ∷ elementsFrom (suc i) n ws
 
-elems-rest : (i n w : ℕ) (ws : List ℕ) → elems (suc i) n (w ∷ ws) ≡ elems i n ws
+elems-rest : (i n w : ℕ) (ws : List ℕ) → elementsFrom (suc i) n (w ∷ ws) ≡ elementsFrom i n ws
 elems-rest i zero w ws = refl
 elems-rest i (suc n) w ws = ap (λ (l : List ℕ). getD ws i 0 ∷ l) (elems-rest (suc i) n w ws)
 
-elems-all : (n : ℕ) (ws : List ℕ) → length ws ≡ n → elems 0 n ws ≡ ws
+elems-all : (n : ℕ) (ws : List ℕ) → length ws ≡ n → elementsFrom 0 n ws ≡ ws
 elems-all zero [] e = refl
 elems-all zero (w ∷ ws) e = absurd (omega arith)
 elems-all (suc n) [] e = absurd (omega arith)
@@ -67,41 +67,41 @@ module _ (n : ℕ) (ws : List ℕ) (a : Arr n ws) where
   pub word-past : (j : ℕ) → n ≤ j → 0 ≡ word (value ws) j
   word-past j l = sym (List·getD-eq-default ws 0 (rw (a .0) l)) ∙ word-in j
 
-  pub empty-words : eqb (join (elems 0 n ws)) 0 ≡ eqb (value ws) 0
+  pub empty-words : eqb (join (elementsFrom 0 n ws)) 0 ≡ eqb (value ws) 0
   empty-words = rw (elems-all n ws (a .0)) (test-same (join ws) 0 (value ws) 0 (join-none ws))
 
-  pub count-words : count (elems 0 n ws) ≡ ones (value ws)
+  pub count-words : count (elementsFrom 0 n ws) ≡ ones (value ws)
   count-words = rw (elems-all n ws (a .0)) (value-count ws (a .1))
 
-  pub lowest-words : lowestFrom 0 (elems 0 n ws) ≡ lowest (64 * n) (value ws)
+  pub lowest-words : lowestFrom 0 (elementsFrom 0 n ws) ≡ lowest (64 * n) (value ws)
   lowest-words = rw (elems-all n ws (a .0)) (value-lowest ws (a .1) ∙ ap (λ (k : ℕ). lowest (64 * k) (value ws)) (a .0))
 
-  pub highest-words : highestFrom 0 Nothing (elems 0 n ws) ≡ highest (64 * n) (value ws)
+  pub highest-words : highestFrom 0 Nothing (elementsFrom 0 n ws) ≡ highest (64 * n) (value ws)
   highest-words = rw (elems-all n ws (a .0)) (value-highest ws (a .1) ∙ ap (λ (k : ℕ). highest (64 * k) (value ws)) (a .0))
 
 -- ---- two sets
 
 module _ (n : ℕ) (xs ys : List ℕ) (a : Arr n xs) (b : Arr n ys) where
-  zip-words : (f g : ℕ → ℕ → ℕ) → Wordwise f g → value (zip f (elems 0 n xs) (elems 0 n ys)) ≡ g (value xs) (value ys)
+  zip-words : (f g : ℕ → ℕ → ℕ) → Wordwise f g → value (zip f (elementsFrom 0 n xs) (elementsFrom 0 n ys)) ≡ g (value xs) (value ys)
   zip-words f g k = rw (elems-all n xs (a .0), elems-all n ys (b .0)) (value-zip f g k xs ys (a .1) (b .1) (a .0 ∙ sym (b .0)))
 
-  pub and-words : value (zip bitAnd (elems 0 n xs) (elems 0 n ys)) ≡ value xs ∩ value ys
+  pub and-words : value (zip bitAnd (elementsFrom 0 n xs) (elementsFrom 0 n ys)) ≡ value xs ∩ value ys
   and-words = zip-words bitAnd _∩_ wordwise-∩
 
-  pub or-words : value (zip bitOr (elems 0 n xs) (elems 0 n ys)) ≡ value xs ∪ value ys
+  pub or-words : value (zip bitOr (elementsFrom 0 n xs) (elementsFrom 0 n ys)) ≡ value xs ∪ value ys
   or-words = zip-words bitOr _∪_ wordwise-∪
 
-  pub without-words : value (zip masked (elems 0 n xs) (elems 0 n ys)) ≡ value xs ∖ value ys
+  pub without-words : value (zip masked (elementsFrom 0 n xs) (elementsFrom 0 n ys)) ≡ value xs ∖ value ys
   without-words = zip-words masked _∖_ wordwise-∖
 
-  pub equal-words : eqb (join (zip bitXor (elems 0 n xs) (elems 0 n ys))) 0 ≡ eqb (value xs) (value ys)
+  pub equal-words : eqb (join (zip bitXor (elementsFrom 0 n xs) (elementsFrom 0 n ys))) 0 ≡ eqb (value xs) (value ys)
   equal-words =
-      let r = join-none (zip bitXor (elems 0 n xs) (elems 0 n ys)) in
+      let r = join-none (zip bitXor (elementsFrom 0 n xs) (elementsFrom 0 n ys)) in
       let z = zip-words bitXor bitXor wordwise-xor in
       let e = xor-none (value xs) (value ys) in
-      test-same (join (zip bitXor (elems 0 n xs) (elems 0 n ys))) 0 (value xs) (value ys) (λ h. e .0 (sym z ∙ r .0 h), λ h. r .1 (z ∙ e .1 h))
+      test-same (join (zip bitXor (elementsFrom 0 n xs) (elementsFrom 0 n ys))) 0 (value xs) (value ys) (λ h. e .0 (sym z ∙ r .0 h), λ h. r .1 (z ∙ e .1 h))
 
-  pub less-words : lessFrom false (elems 0 n xs) (elems 0 n ys) ≡ ltb (value xs) (value ys)
+  pub less-words : lessFrom false (elementsFrom 0 n xs) (elementsFrom 0 n ys) ≡ ltb (value xs) (value ys)
   less-words =
       rw (elems-all n xs (a .0), elems-all n ys (b .0))
       (value-less false xs ys (a .1) (b .1) (a .0 ∙ sym (b .0)) ∙ less-none (value xs) (value ys))

@@ -6,11 +6,11 @@ use Rattle.sets.specs.declared.item.Item.the-variants.{At, Nothing}
 use Rattle.sets.specs.Truth.{if_then_else_}
 use Rattle.sets.specs.Sets.{has}
 
-infixl 20 _orElse_
+infixl 20 _otherwise_
 -- the first, or the second where the first is nothing
-unfoldable pub _orElse_ : Item → Item → Item
-At i orElse b = At i
-Nothing orElse b = b
+unfoldable pub _otherwise_ : Item → Item → Item
+At i otherwise b = At i
+Nothing otherwise b = b
 
 -- n where it is an item of s
 unfoldable pub itemAt : ℕ → ℕ → Item
@@ -19,9 +19,9 @@ itemAt s n = if has s n then At n else Nothing
 -- of the items of s below n, the lowest
 unfoldable pub lowest : ℕ → ℕ → Item
 lowest zero s = Nothing
-lowest (suc n) s = lowest n s orElse itemAt s n
+lowest (suc n) s = lowest n s otherwise itemAt s n
 
 -- of the items of s below n, the highest
 unfoldable pub highest : ℕ → ℕ → Item
 highest zero s = Nothing
-highest (suc n) s = itemAt s n orElse highest n s
+highest (suc n) s = itemAt s n otherwise highest n s

@@ -75,7 +75,7 @@ pub fn copy(ws: &mut [u64], at: usize, src: &[u64])
 }
 
 // Whether ws holds all of src, from place `at` on. All words are compared, without a branch for each.
-pub fn holds(ws: &[u64], at: usize, src: &[u64]) -> bool
+pub fn equal_at(ws: &[u64], at: usize, src: &[u64]) -> bool
     requires { ⌜ at + length (now src) ≤ length (now ws) ⌝ }
     ensures { λ r. ⌜ r ≡ all (length (now (src .entry))) (λ i. eqb (getD (now (ws .entry)) (at + i) 0) (getD (now (src .entry)) i 0)) ⌝ }
 {

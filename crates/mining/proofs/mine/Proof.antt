@@ -5,7 +5,7 @@ use lib.ListN.{length-replicate}
 use borrow.Author.Needs.{needs}
 use Rattle.model.specs.Lists.{rowsAt}
 use Rattle.mining.specs.Mining.{Seen}
-use Rattle.mining.proofs.Persons.{Mining, mining-none, mining-table, mining-all, mining-more, mining-full}
+use Rattle.mining.proofs.Users.{Mining, mining-none, mining-table, mining-all, mining-more, mining-full}
 use Rattle.stores.proofs.Stores.{blank}
 use Rattle.mining.proofs.Seeing.{seen-none}
 use Rattle.mining.proofs.Walking.{seen-held}

@@ -13,7 +13,7 @@ use Rattle.quality.specs.Numbers.{weightsIn}
 use Rattle.edit_trials.proofs.Runs.{ready-few, ready-weighed}
 use Rattle.edit_order.specs.Work.{downStart}
 use Rattle.edit_eliminate.specs.declared.turn.Turn.{Turn}
-use Rattle.edit_eliminate.specs.Passing.{Reached}
+use Rattle.edit_eliminate.specs.Passing.{RunReached}
 use Rattle.edit_eliminate.proofs.Running.{ended-at-once, permissions-few, index-of, all-held, first-turn, all-prepared}
 use Rattle.edit_eliminate.proofs.all.eliminate_all.Statement.{statement}
 use Rattle.edit_eliminate.proofs.all.eliminate_all.Tie as tie
@@ -41,7 +41,7 @@ turn c =
 first : (c : tie.After-strikable-roles)
     → let ws = start (filled c) .args .rec .now in
     let ρ = rolesOf (stateOf ws) in
-    Reached (stateOf ws) ws (filled c .fill-holders .last .1 .0) (take downStart (start (filled c) .args .work .now)) (turn c)
+    RunReached (stateOf ws) ws (filled c .fill-holders .last .1 .0) (take downStart (start (filled c) .args .work .now)) (turn c)
     (begin ρ (weightsIn (start (filled c) .args .terms .weights)) (strikables ρ (stateOf ws .standing)) (stateOf ws .standing))
 first c =
     let given = start (filled c) .pre in

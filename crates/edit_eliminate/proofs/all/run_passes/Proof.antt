@@ -29,7 +29,7 @@ slice-read-left : tie.Need-slice-read-left Inv-loop μ-loop
 slice-read-left c = search needs
 
 add-left : tie.Need-add-left Inv-loop μ-loop
-add-left c = let few = ready-few _ _ _ (c .before .before .before .before .pre .0 .underway .going .ready) in omega arith
+add-left c = let few = ready-few _ _ _ (c .before .before .before .before .pre .0 .underway .in-step .ready) in omega arith
 
 loop-holds : tie.Need-loop-holds Inv-loop μ-loop
 loop-holds c = let given = c .before .before .before .before .before .pre in (search needs, search needs, running-start _ _ _ _ _ _ (given .0) (given .1 .1 .0) refl)

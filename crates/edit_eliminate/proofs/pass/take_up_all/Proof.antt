@@ -39,7 +39,7 @@ fewer-left c =
     let turn = c .before .before .before .before .before .take-up in
     let inv = loop c .loop .inv .1 in
     taking-more _ _ _ _ _ _ _ _ _ inv _ _ (front c .foremost .ensures) _ _ _ _ _ (turn .ensures)
-    (part-back _ 0 downStart _ (turn .ensures .underway .going .ready .linked .size) (rw (inv .prepared .reach .size) (omega arith))) (c .remove .ensures)
+    (part-back _ 0 downStart _ (turn .ensures .underway .in-step .ready .linked .size) (rw (inv .prepared .reach .size) (omega arith))) (c .remove .ensures)
 
 slice-read-top : tie.Need-slice-read-top Inv-loop μ-loop
 slice-read-top c = search needs

@@ -33,12 +33,12 @@ returns c =
 if-struck-requires : tie.Need-if-struck-requires
 if-struck-requires c κs =
     let given = start (c .before .before .before) .pre in
-    (given .0 .going .ready, (given .0 .going .exact, (given .1 .1 .0, search needs)))
+    (given .0 .in-step .ready, (given .0 .in-step .exact, (given .1 .1 .0, search needs)))
 
 weigh-requires : tie.Need-weigh-requires
 weigh-requires c κs =
     let given = start (c .before .before .before .before .before) .pre in
-    (trial-few _ _ _ (given .0 .going .ready) _ (strike-below _ _ _ (given .0 .going .ready) _) _ (c .before .if-struck .ensures .counts), given .1 .0 .weights)
+    (trial-few _ _ _ (given .0 .in-step .ready) _ (strike-below _ _ _ (given .0 .in-step .ready) _) _ (c .before .if-struck .ensures .counts), given .1 .0 .weights)
 
 tolerated-requires : tie.Need-tolerated-requires
 tolerated-requires c κs =
@@ -86,7 +86,7 @@ returns-3 c =
     let trial = decided .before .before .before .before in
     let asked = trial .before .before .before .before in
     let given = start asked .pre in
-    let made = written .take-out-at .ensures _ (given .0 .going .ready) (given .1 .1 .0) (trial .if-struck .ensures .neighbours) in
+    let made = written .take-out-at .ensures _ (given .0 .in-step .ready) (given .1 .1 .0) (trial .if-struck .ensures .neighbours) in
     turn-struck _ _ _ _ _ _ (given .0) _ (given .1 .1 .0) (asked .removable .ensures) (not-false _ (trial .before .before .before .if1 .left)) _ (trial .if-struck .ensures) _ (decided .before .before .weigh .ensures .0) _ (decided .before .tolerated .ensures) (not-false _ (decided .if2 .left)) (decided .before .before .weigh .ensures .1) _ _ made _ refl (c .remove2 .ensures)
 
 pub take-up-spec : {M : Type 1} → statement M

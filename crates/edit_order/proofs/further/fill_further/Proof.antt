@@ -5,12 +5,12 @@ use Prim.Native.Nat.{_-_, _^_, _<_}
 use native.Mathlib.Omega.{arith}
 use Rattle.sets.specs.Held.{set128}
 use Rattle.sets.proofs.Written.{words, held128}
-use Rattle.edit_order.proofs.Narrowing.{Filling, filling-start, filling-among, filling-more, filling-all}
+use Rattle.edit_order.proofs.Narrowing.{FurtherFilling, filling-start, filling-among, filling-more, filling-all}
 use Rattle.edit_order.proofs.further.fill_further.Statement.{statement}
 use Rattle.edit_order.proofs.further.fill_further.Tie as tie
 
 abbrev Inv-loop : tie.InvT-loop
-Inv-loop work₀ count all i₀ work i = Filling count work₀ work i
+Inv-loop work₀ count all i₀ work i = FurtherFilling count work₀ work i
 
 abbrev μ-loop : tie.MeasureT-loop
 μ-loop work₀ count all i₀ work i = count - i

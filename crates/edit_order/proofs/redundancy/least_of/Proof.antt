@@ -9,7 +9,7 @@ use Rattle.sets.specs.Held.{set128}
 use Rattle.sets.specs.Sets.{_∩_}
 use Rattle.hierarchy.proofs.Sieving.{not-empty, is-empty}
 use Rattle.edit_order.specs.Work.{samplesStart, entry}
-use Rattle.edit_order.proofs.Walking.{Asking, Asked, asked, asking-start, asking-more, asking-fewer, asking-stop, asking-all}
+use Rattle.edit_order.proofs.Walking.{Asking, HolderAsked, asked, asking-start, asking-more, asking-fewer, asking-stop, asking-all}
 use Rattle.edit_order.proofs.redundancy.least_of.Statement.{statement}
 use Rattle.edit_order.proofs.redundancy.least_of.Tie as tie
 
@@ -26,7 +26,7 @@ own-roles c = c .intersection .ensures ∙ ap (λ (x : ℕ). x ∩ set128 (c .be
 -- one holder is asked
 one : (c : tie.After-smaller Inv-loop μ-loop)
     → let test = c .before .before .before .before .before .before .before in
-    Asked (test .before .before .before .before .args .work .now) (set128 (test .before .intersection .result)) (test .loop .least) (set128 (test .loop .rest)) (c .before .before .before .before .highest-item .result) (c .smaller .result)
+    HolderAsked (test .before .before .before .before .args .work .now) (set128 (test .before .intersection .result)) (test .loop .least) (set128 (test .loop .rest)) (c .before .before .before .before .highest-item .result) (c .smaller .result)
 one c = asked _ _ _ _ _ _ _ _ _ (c .before .before .before .before .highest-item .ensures .there) (c .before .before .before .load1282 .ensures) (c .before .before .intersection2 .ensures) (c .before .count .ensures) (c .smaller .ensures)
 
 mul-load128 : tie.Need-mul-load128 Inv-loop μ-loop

@@ -8,7 +8,7 @@ use lib.Count.{ones}
 use Rattle.sets.specs.Held.{set128}
 use Rattle.sets.specs.Sets.{_∩_}
 use Rattle.hierarchy.proofs.Sieving.{not-empty, is-empty}
-use Rattle.edit_order.proofs.Walking.{Walking, Begun, in-work, holders-below, walking-start, walking-more, walking-fewer, walking-stop, walking-all}
+use Rattle.edit_order.proofs.Walking.{Walking, WalkBegun, in-work, holders-below, walking-start, walking-more, walking-fewer, walking-stop, walking-all}
 use Rattle.edit_order.proofs.redundancy.redundancy.Statement.{statement}
 use Rattle.edit_order.proofs.redundancy.redundancy.Tie as tie
 
@@ -19,7 +19,7 @@ abbrev μ-loop : tie.MeasureT-loop
 μ-loop work c counted k floor holders least₀ samples₀ least samples = ones (set128 samples)
 
 begun : (c : tie.After-load1283 Inv-loop μ-loop)
-    → Begun (c .before .before .before .before .before .before .args .work .now) (c .before .before .before .before .before .before .args .c) (c .before .before .before .before .before .before .args .k) (set128 (c .before .intersection .result)) (set128 (c .load1283 .result))
+    → WalkBegun (c .before .before .before .before .before .before .args .work .now) (c .before .before .before .before .before .before .args .c) (c .before .before .before .before .before .before .args .k) (set128 (c .before .intersection .result)) (set128 (c .load1283 .result))
 begun c =
     let start = c .before .before .before .before .before .before in
     record {

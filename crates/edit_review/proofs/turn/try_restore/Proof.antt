@@ -11,7 +11,7 @@ use Rattle.model.specs.Record.{stateOf}
 use Rattle.model.specs.State.{rolesOf}
 use Rattle.quality.specs.Numbers.{weightsIn}
 use Rattle.edit_trials.specs.Trying.{Restorable}
-use Rattle.edit_trials.proofs.Runs.{stands-read, kin-same, kin-now, going-back, number-known, restore-below, trial-few, trial-weighed, trial-state, trial-going}
+use Rattle.edit_trials.proofs.Runs.{stands-read, crew-same, crew-now, step-back, number-known, restore-below, trial-few, trial-weighed, trial-state, trial-in-step}
 use Rattle.edit_review.proofs.Turns.{turn-stands, turn-restored, turn-kept}
 use Rattle.edit_review.proofs.turn.try_restore.Statement.{statement}
 use Rattle.edit_review.proofs.turn.try_restore.Tie as tie
@@ -55,8 +55,8 @@ returns : tie.Need-returns
 returns c =
     let given = c .before .before .before .before .before .before .before .pre in
     record {
-      going = given .0;
-      kin = kin-same _;
+      in-step = given .0;
+      same-crew = crew-same _;
       run = turn-stands _ _ _ _ (sym (stands-read _ _ _ (given .0 .ready) _ _ _ (c .before .before .load128 .ensures) (c .before .contains .ensures)) ∙ c .if1 .taken);
     }
 
@@ -100,8 +100,8 @@ returns-2 c =
     let made = c .before .before .before .before .before .put-back-at .ensures _ ready (able .candidate) (able .absent) (trial .neighbours) in
     let now = trial-state _ _ _ ready _ below _ (trial .counts) _ _ made in
     record {
-      going = trial-going _ _ _ ready _ below _ (trial .counts) _ _ made _ refl;
-      kin = kin-now _ _ _ now;
+      in-step = trial-in-step _ _ _ ready _ below _ (trial .counts) _ _ made _ refl;
+      same-crew = crew-now _ _ _ now;
       run = turn-restored _ _ _ _ (able .absent) _ (weighed (kept .before .before .before)) (kept .if2 .taken) _ _ now refl refl refl;
     }
 
@@ -111,8 +111,8 @@ same-length-4 c = search needs
 returns-3 : tie.Need-returns-3
 returns-3 c =
     record {
-      going = going-back _ _ _ _ _ _ _ (c .before .before .before .before .before .before .before .before .before .before .before .before .before .before .before .pre .0) refl refl refl;
-      kin = kin-same _;
+      in-step = step-back _ _ _ _ _ _ _ (c .before .before .before .before .before .before .before .before .before .before .before .before .before .before .before .pre .0) refl refl refl;
+      same-crew = crew-same _;
       run = turn-kept _ _ _ _ (restorable (c .before .before .before .before .before .before .before .before) .absent) _ (weighed (c .before .before .before)) (c .if2 .left) _ _ refl refl refl refl;
     }
 

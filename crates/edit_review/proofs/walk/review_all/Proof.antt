@@ -42,7 +42,7 @@ review-pass-requires c κs =
     let inv = c .before .before .before .loop .inv in
     let x = inv .1 .changed in
     let y = inv .1 .examined in
-    (inv .1 .going, (given .1 .1 .0, ((omega arith, omega arith), (inv .0 .0, given .1 .1 .1 .1, inv .0 .1))))
+    (inv .1 .in-step, (given .1 .1 .0, ((omega arith, omega arith), (inv .0 .0, given .1 .1 .1 .1, inv .0 .1))))
 
 same-length : tie.Need-same-length Inv-loop μ-loop
 same-length c = let l = c .before .before .before .before .before .before .before .before .before .before .before .loop .inv .0 .0 in let e = c .before .before .before .before .before .before .rec .given in let r = c .before .before .before .before .before .before .before .before .before .before .before .before .before .before .before .before .before .pre .1 .1 .1 .0 in omega arith

@@ -41,7 +41,7 @@ try-restore-requires c κs =
     let y = b .1 in
     let u = room .0 in
     let v = room .1 in
-    (inv .2 .going, (given .1 .0, (omega arith, ((omega arith, omega arith), (inv .1 .0, given .1 .1 .1 .1, inv .1 .1)))))
+    (inv .2 .in-step, (given .1 .0, (omega arith, ((omega arith, omega arith), (inv .1 .0, given .1 .1 .1 .1, inv .1 .1)))))
 
 add-k : tie.Need-add-k Inv-loop μ-loop
 add-k c =

@@ -17,7 +17,7 @@ use Rattle.model.specs.Hierarchy.{candidateCount, authorisedUsers}
 use Rattle.model.specs.Indexes.{lower, rolesOfUser}
 use Rattle.model.specs.State.{State, rolesOf}
 use Rattle.model.specs.Record.{Limits}
-use Rattle.tables.specs.Tables.{Holds}
+use Rattle.tables.specs.Tables.{HoldsSets}
 use Rattle.tables.proofs.Tables.{HeldBut, held-more}
 use Rattle.hierarchy.proofs.Sieving.{fewer, not-empty, is-empty}
 use Rattle.indexes.specs.Tables.{Owned, sharedBy}
@@ -28,7 +28,7 @@ use Rattle.indexes.proofs.shared.fill_shared.Tie as tie
 abbrev Inv-loop : tie.InvT-loop
 Inv-loop roles users c low₀ some rest₀ low rest =
     (length low ≡ 256) × ((i : ℕ) → So (has (set128 rest) i) → i < c)
-    × ((st : State) (known : ℕ) → Limits st → candidateCount (rolesOf st) ≡ c → Holds 2 (st .users) (rolesOfUser (rolesOf st)) roles → Holds 2 c (authorisedUsers (rolesOf st)) users
+    × ((st : State) (known : ℕ) → Limits st → candidateCount (rolesOf st) ≡ c → HoldsSets 2 (st .users) (rolesOfUser (rolesOf st)) roles → HoldsSets 2 c (authorisedUsers (rolesOf st)) users
     → Owned st (st .users) low₀ known (set128 some) → HeldBut (everyRole c) (set128 rest₀) (lower (rolesOf st)) low₀ → HeldBut (everyRole c) (set128 rest) (lower (rolesOf st)) low)
 
 abbrev μ-loop : tie.MeasureT-loop

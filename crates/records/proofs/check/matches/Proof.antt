@@ -10,7 +10,7 @@ use Rattle.model.specs.Coverage.{allCovered}
 use Rattle.model.specs.Record.{stateOf}
 use Rattle.model.specs.State.{rolesOf}
 use Rattle.rows.specs.Linked.{Ready}
-use Rattle.rows.specs.Partway.{Headed, Begun}
+use Rattle.rows.specs.Partway.{Headed, WithoutRows}
 use Rattle.records.proofs.Beginning.{built-headed, headed-source, headed-fills, head-users, head-standing}
 use Rattle.records.proofs.Judging.{few-users, described, uncovered, compared, ready}
 use Rattle.records.proofs.check.matches.Statement.{statement}
@@ -19,7 +19,7 @@ use Rattle.records.proofs.check.matches.Tie as tie
 abbrev words : tie.Start → List ℕ
 words c = c .args .rec .now
 
-begun-at : (c : tie.After-begin-record) → Begun (stateOf (words (c .before .before .before .before .before .before .before .before .before))) (c .begin-record .last .0)
+begun-at : (c : tie.After-begin-record) → WithoutRows (stateOf (words (c .before .before .before .before .before .before .before .before .before))) (c .begin-record .last .0)
 begun-at c =
     let given = c .before .before .before .before .before .before .before .before .before .pre in
     c .begin-record .ensures _ (rw (sym (c .before .load128 .ensures)) at (described _ (given .0) (given .1 .0) _ (given .1 .1 .0))) (given .1 .1 .1 .0)
@@ -80,8 +80,8 @@ returns c =
     let no = uncovered _ (given .0) (given .1 .0) _ (covered-at (c .before)) (c .if1 .taken) in
     (no, λ s. absurd (So-not (sym no) s))
 
-holds-requires : tie.Need-holds-requires
-holds-requires c κs =
+equal-at-requires : tie.Need-equal-at-requires
+equal-at-requires c κs =
     let size = headed-at (c .before .before .before .before .before .before .before .before .before .before .before) .size in
     let full = c .before .before .before .before .before .before .before .before .before .before .before .before .before .before .before .before .before .before .before .before .before .before .before .before .before .before .pre .0 in
     omega arith
@@ -99,7 +99,7 @@ returns-2 : tie.Need-returns-2
 returns-2 c =
     let given = c .before .before .before .before .before .before .before .before .before .before .before .before .before .before .before .before .before .before .before .before .before .before .before .before .before .before .before .pre in
     let made = ready-at (c .before .before .before .before .before .before .before .before .before .before .before .before) in
-    (compared _ (given .0) (given .1 .0) _ _ _ (covered-at (c .before .before .before)) (c .before .before .if1 .left) (made .afresh) (c .holds .ensures), ready _ (given .0) (given .1 .0) _ _ _ made)
+    (compared _ (given .0) (given .1 .0) _ _ _ (covered-at (c .before .before .before)) (c .before .before .if1 .left) (made .afresh) (c .equal-at .ensures), ready _ (given .0) (given .1 .0) _ _ _ made)
 
 pub matches-spec : {M : Type 1} → statement M
 matches-spec =
@@ -115,7 +115,7 @@ matches-spec =
     same-length-2
     same-length-3
     returns
-    holds-requires
+    equal-at-requires
     same-length-4
     same-length-5
     same-length-6

@@ -14,14 +14,14 @@ use Rattle.model.specs.State.{State, rolesOf}
 use Rattle.indexes.specs.Index.{Indexed}
 use Rattle.indexes.specs.Tables.{SourceOf}
 use Rattle.indexes.proofs.Sources.{source-row}
-use Rattle.records.specs.Records.{userCovered}
+use Rattle.records.specs.Records.{eachGrantCovered}
 use Rattle.records.proofs.Covering.{own-roles-are, users-counted}
 use Rattle.records.proofs.cover.all_covered.Statement.{statement}
 use Rattle.records.proofs.cover.all_covered.Tie as tie
 
 abbrev Inv-loop : tie.InvT-loop
 Inv-loop rec index n standing u₀ u =
-    (u ≤ n) × ((st : State) → SourceOf st rec crewStart → setAt 2 rec 4 ≡ st .standing → Indexed (rolesOf st) index → So (all u (userCovered st)))
+    (u ≤ n) × ((st : State) → SourceOf st rec crewStart → setAt 2 rec 4 ≡ st .standing → Indexed (rolesOf st) index → So (all u (eachGrantCovered st)))
 
 abbrev μ-loop : tie.MeasureT-loop
 μ-loop rec index n standing u₀ u = n - u
@@ -76,7 +76,7 @@ user-covered-requires c κs = search needs
 
 -- what the test of user u tells
 told : (c : tie.After-user-covered Inv-loop μ-loop) (st : State) → SourceOf st (c .before .before .before .before .before .before .before .before .before .before .before .before .args .rec .now) crewStart → setAt 2 (c .before .before .before .before .before .before .before .before .before .before .before .before .args .rec .now) 4 ≡ st .standing
-    → Indexed (rolesOf st) (c .before .before .before .before .before .before .before .before .before .before .before .before .args .index .now) → c .user-covered .result ≡ userCovered st (c .before .before .before .before .before .before .before .loop .u)
+    → Indexed (rolesOf st) (c .before .before .before .before .before .before .before .before .before .before .before .before .args .index .now) → c .user-covered .result ≡ eachGrantCovered st (c .before .before .before .before .before .before .before .loop .u)
 told c st src same ix =
     let lu = c .before .before .before .before .before .before .loop-test .taken in
     c .user-covered .ensures st _ _ _ _ _ src (ix .lower-roles) lu (c .before .before .load256 .ensures ∙ source-row st _ _ _ _ _ src _ lu)

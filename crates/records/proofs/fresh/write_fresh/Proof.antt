@@ -8,7 +8,7 @@ use native.Mathlib.Omega.{arith}
 use Rattle.model.specs.Lists.{rowsAt}
 use Rattle.model.specs.State.{fresh}
 use Rattle.stores.proofs.Stores.{putAt-whole, blank}
-use Rattle.rows.specs.Partway.{Begun}
+use Rattle.rows.specs.Partway.{WithoutRows}
 use Rattle.records.proofs.Beginning.{built-headed, headed-fills}
 use Rattle.records.proofs.Judging.{fresh-few, fresh-candidates, fresh-described}
 use Rattle.records.proofs.fresh.write_fresh.Statement.{statement}
@@ -17,7 +17,7 @@ use Rattle.records.proofs.fresh.write_fresh.Tie as tie
 abbrev rows : tie.Start → List ℕ
 rows c = rowsAt (c .args .n) (c .args .crew .now) 0
 
-begun-at : (c : tie.After-begin-record) → Begun (fresh (c .before .before .before .before .before .before .args .n) (c .before .before .before .before .before .before .args .m) (rows (c .before .before .before .before .before .before))) (c .begin-record .last .0)
+begun-at : (c : tie.After-begin-record) → WithoutRows (fresh (c .before .before .before .before .before .before .args .n) (c .before .before .before .before .before .before .args .m) (rows (c .before .before .before .before .before .before))) (c .begin-record .last .0)
 begun-at c =
     let given = c .before .before .before .before .before .before .pre in
     c .begin-record .ensures _ (fresh-described _ _ _ _ _ (given .1 .1 .0) (given .1 .1 .1 .0) (c .before .below .ensures)) (fresh-candidates _ _ _ _ (given .1 .1 .1 .1))

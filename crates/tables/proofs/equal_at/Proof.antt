@@ -9,8 +9,8 @@ use lib.ListN.{length, getD}
 use Rattle.sets.specs.Truth.{all}
 use Rattle.sets.proofs.Truth.{all-none}
 use Rattle.sets.proofs.Compare.{differ-more}
-use Rattle.tables.proofs.holds.Statement.{statement}
-use Rattle.tables.proofs.holds.Tie as tie
+use Rattle.tables.proofs.equal_at.Statement.{statement}
+use Rattle.tables.proofs.equal_at.Tie as tie
 
 abbrev Inv-loop : tie.InvT-loop
 Inv-loop ws at src differing₀ i₀ differing i = (i ≤ length src) × (eqb differing 0 ≡ all i (λ k. eqb (getD ws (at + k) 0) (getD src k 0)))
@@ -52,8 +52,8 @@ loop-again c = (
 returns : tie.Need-returns Inv-loop μ-loop
 returns c = let e : c .before .loop .i ≡ length (c .before .before .args .src .now) = omega arith in rw e at (c .before .loop .inv .1)
 
-pub holds-spec : {M : Type 1} → statement M
-holds-spec =
+pub equal-at-spec : {M : Type 1} → statement M
+equal-at-spec =
     tie.close
     (tie.spec
     Inv-loop
