@@ -2,7 +2,7 @@
 -- Assumes nothing.
 use Prim.Native.Nat.{_-_}
 use borrow.Author.Needs.{needs}
-use Rattle.sets.specs.Held.{set256}
+use Rattle.sets_256.specs.Held.{set256}
 use Rattle.model.specs.Lists.{rowsAt}
 use Rattle.mining.specs.Mining.{Framed, Seen}
 use Rattle.mining.proofs.Meeting.{Walked, walked-none}
