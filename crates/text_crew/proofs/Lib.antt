@@ -3,3 +3,4 @@ pub mod Forms
 pub mod Laid
 pub mod Answers
 pub mod Canonical
+pub mod Conditions

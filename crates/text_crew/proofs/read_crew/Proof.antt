@@ -28,7 +28,7 @@ enum-known-n : tie.Need-enum-known-n
 enum-known-n c = search needs
 
 fill-requires : tie.Need-fill-requires
-fill-requires c κs = let k = withinLimits-iff _ _ .0 (header-form _ _ _ _ (sym (c .before .before .before .before .read-header .ensures) ∙ c .before .before .n .given .1) .limits) in (k .1, k .3, omega arith)
+fill-requires c κs = let k = withinLimits-iff _ _ .0 (header-form _ _ _ _ (sym (c .before .before .before .before .read-header .ensures) ∙ c .before .before .n .given .1) .1) in (k .1, k .3, omega arith)
 
 enum-told : tie.Need-enum-told
 enum-told c = search needs
