@@ -285,7 +285,7 @@ module _ (text : List ℕ) (n m at : ℕ) (e : headerAt text ≡ Crew n m at) wh
         m = m;
         k = f .k;
         rest = q .rest;
-        before = q .order;
+        order = q .order;
         one-more = l;
         broken = λ x s. let h = row-here text n m (f .k) (q .rest) (q .order) (omega arith) x s .0 in let z : _≡_ {A = ℕ} 0 1 = cc in let no : ⊥ = omega arith in no;
       }
@@ -301,7 +301,7 @@ module _ (text : List ℕ) (n m at : ℕ) (e : headerAt text ≡ Crew n m at) wh
         m = m;
         k = f .k;
         rest = q .rest;
-        before = q .order;
+        order = q .order;
         one-more = f .below;
         x = x;
         row = row-stands text n m (f .k) (q .rest) (q .order) (b .0) (row-reached text n m (f .k) (f .p) q (Digits (b .0)) (b .1));
@@ -311,7 +311,7 @@ module _ (text : List ℕ) (n m at : ℕ) (e : headerAt text ≡ Crew n m at) wh
   more-bytes : (rows : List ℕ) (end : ℕ) → rowsTo text m at n ≡ rowsRead rows end → end ≢ length text → MoreBytes text
   more-bytes rows end r d =
       let q = reached text n m at n rows end e r in
-      record { n = n; m = m; rest = q .rest; before = q .order; more = λ z. d (q .at-place ∙ ends-here text n m n (q .rest) (q .order) z) }
+      record { n = n; m = m; rest = q .rest; order = q .order; more = λ z. d (q .at-place ∙ ends-here text n m n (q .rest) (q .order) z) }
 
 -- ---- every way that the reader can go
 
@@ -371,12 +371,12 @@ module _ (text buffer : List ℕ) where
       bit j f =
           let l : f .k < f .n = f .one-more in
           let few : f .k ≤ f .n = omega arith in
-          let h = row-here text (f .n) (f .m) (f .k) (f .rest) (f .before) few (f .x) (f .row) in
+          let h = row-here text (f .n) (f .m) (f .k) (f .rest) (f .order) few (f .x) (f .row) in
           let big : ltb (f .x) (2 ^ f .m) ≡ false = le-ltb (f .x) (2 ^ f .m) (above-big (f .m) (f .x) (f .bit .0) (f .bit .1) (f .bit .2)) in
-          let rows = filling text (f .n) (f .m) (f .k) (f .rest) (f .before) few in
+          let rows = filling text (f .n) (f .m) (f .k) (f .rest) (f .order) few in
           let end = fill-bit text (f .m) _ (f .k) _ _ rows (f .n) _ (f .x) [] l (h .0) (sym (h .1)) big .0 in
           code-of 3 buffer
-          (after-bit text buffer (f .n) (f .m) _ end ∙ by-crew text buffer (j .0) (j .1) (header-here text (f .n) (f .m) (f .k) (f .rest) (f .before)))
+          (after-bit text buffer (f .n) (f .m) _ end ∙ by-crew text buffer (j .0) (j .1) (header-here text (f .n) (f .m) (f .k) (f .rest) (f .order)))
 
   when10 : When10 text buffer → readCrew text buffer .code ≡ 10
   when10 w =
@@ -389,23 +389,23 @@ module _ (text buffer : List ℕ) where
       row : LinesJudged text buffer → RowBroken text → readCrew text buffer .code ≡ 10
       row j f =
           let l : f .k < f .n = f .one-more in
-          let rows = filling text (f .n) (f .m) (f .k) (f .rest) (f .before) (omega arith) in
+          let rows = filling text (f .n) (f .m) (f .k) (f .rest) (f .order) (omega arith) in
           let end = fill-broken text (f .m) _ (f .k) _ _ rows (f .n) [] l (go _ refl) .0 in
           code-of 10 buffer
-          (after-form text buffer (f .n) (f .m) _ end ∙ by-crew text buffer (j .0) (j .1) (header-here text (f .n) (f .m) (f .k) (f .rest) (f .before)))
+          (after-form text buffer (f .n) (f .m) _ end ∙ by-crew text buffer (j .0) (j .1) (header-here text (f .n) (f .m) (f .k) (f .rest) (f .order)))
         where
-          go : (o : Row) → rowDigitsAt text (digitsFor (f .m)) (f .k) (place text (f .n) (f .m) (f .k) (f .rest) (f .before)) ≡ o → o ≡ Broken
+          go : (o : Row) → rowDigitsAt text (digitsFor (f .m)) (f .k) (place text (f .n) (f .m) (f .k) (f .rest) (f .order)) ≡ o → o ≡ Broken
           go (Digits digits) e =
-              absurd (f .broken (hexadecimalValue (digitsFor (f .m)) text digits) (row-stands text (f .n) (f .m) (f .k) (f .rest) (f .before) digits e))
+              absurd (f .broken (hexadecimalValue (digitsFor (f .m)) text digits) (row-stands text (f .n) (f .m) (f .k) (f .rest) (f .order) digits e))
           go Broken e = refl
 
       more : LinesJudged text buffer → MoreBytes text → readCrew text buffer .code ≡ 10
       more j f =
-          let rows = filling text (f .n) (f .m) (f .n) (f .rest) (f .before) (omega arith) in
+          let rows = filling text (f .n) (f .m) (f .n) (f .rest) (f .order) (omega arith) in
           let end = fill-all text (f .m) _ (f .n) _ _ rows .0 in
           code-of 10 buffer
-          (after-more text buffer (f .n) (f .m) _ _ end (λ z. f .more (goes-on text (f .n) (f .m) (f .n) (f .rest) (f .before) z))
-          ∙ by-crew text buffer (j .0) (j .1) (header-here text (f .n) (f .m) (f .n) (f .rest) (f .before)))
+          (after-more text buffer (f .n) (f .m) _ _ end (λ z. f .more (goes-on text (f .n) (f .m) (f .n) (f .rest) (f .order) z))
+          ∙ by-crew text buffer (j .0) (j .1) (header-here text (f .n) (f .m) (f .n) (f .rest) (f .order)))
 
   only2 : Outcome text buffer → readCrew text buffer .code ≡ 2 → When2 text buffer
   only2 (good e) z = absurd (omega (arith, sym e ∙ z))

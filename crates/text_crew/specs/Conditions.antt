@@ -58,7 +58,7 @@ pub record RowBeyond (text : List ℕ) : Type 0 where
   pub m : ℕ
   pub k : ℕ
   pub rest : List ℕ
-  pub before : InOrder text n m k rest
+  pub order : InOrder text n m k rest
   pub one-more : k < n
   pub x : ℕ
   pub row : RowStands rest m k x
@@ -74,7 +74,7 @@ pub record RowBroken (text : List ℕ) : Type 0 where
   pub m : ℕ
   pub k : ℕ
   pub rest : List ℕ
-  pub before : InOrder text n m k rest
+  pub order : InOrder text n m k rest
   pub one-more : k < n
   pub broken : (x : ℕ) → ¬ RowStands rest m k x
 
@@ -83,7 +83,7 @@ pub record MoreBytes (text : List ℕ) : Type 0 where
   pub n : ℕ
   pub m : ℕ
   pub rest : List ℕ
-  pub before : InOrder text n m n rest
+  pub order : InOrder text n m n rest
   pub more : rest ≢ []
 
 -- no fault at all: the text of a crew list
