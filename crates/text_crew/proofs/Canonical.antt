@@ -27,7 +27,7 @@ use Rattle.text_crew.specs.declared.header.Header.{Header}
 use Rattle.text_crew.specs.declared.header.Header.the-variants.{Crew, Malformed, Beyond}
 use Rattle.text_crew.specs.declared.row.Row.{Row}
 use Rattle.text_crew.specs.declared.row.Row.the-variants.{Digits, Broken}
-use Rattle.text_crew.specs.Reader.{limited, headerAt, rowDigitsAt, Read, rowsRead, badForm, badBit, withRow, nextRow, rowsTo, laid, ReadReply, readRefused, afterRows, readCrew}
+use Rattle.text_crew.specs.Reader.{longestText, bufferLength, limited, headerAt, rowDigitsAt, Read, rowsRead, badForm, badBit, withRow, nextRow, rowsTo, laid, ReadReply, readRefused, afterRows, readCrew}
 use Rattle.model.proofs.Record.{withinLimits-iff}
 use Rattle.text_crew.proofs.Lines.{limits-kept, header-whole, row-whole}
 use Rattle.text_crew.proofs.Forms.{HeaderForm, header-form, row-form}
@@ -357,16 +357,16 @@ module _ (text buffer : List ℕ) (z : readCrew text buffer .code ≡ 0) where
   by-end n m at e badForm r a = refused-not text buffer 9 a z
   by-end n m at e badBit r a = refused-not text buffer 2 a z
 
-  by-line : length buffer ≡ 512 → length text ≤ 16384 → (h : Header) → headerAt text ≡ h → Accepted text buffer
+  by-line : length buffer ≡ bufferLength → length text ≤ longestText → (h : Header) → headerAt text ≡ h → Accepted text buffer
   by-line b l (Crew n m at) e = by-end n m at e (rowsTo text m at n) refl (by-crew text buffer b l e)
   by-line b l Malformed e = refused-not text buffer 9 (by-malformed text buffer b l e) z
   by-line b l Beyond e = refused-not text buffer 1 (by-beyond text buffer b l e) z
 
   pub accepted : Accepted text buffer
   accepted =
-      equal-or (length buffer) 512
+      equal-or (length buffer) bufferLength
       (λ b.
-      either 16384 (length text) (λ l. refused-not text buffer 9 (too-long text buffer b l) z) (λ l. by-line b l (headerAt text) refl))
+      either longestText (length text) (λ l. refused-not text buffer 9 (too-long text buffer b l) z) (λ l. by-line b l (headerAt text) refl))
       (λ d. refused-not text buffer 2 (wrong-buffer text buffer d) z)
 
 -- a text that is accepted is the canonical text of the list that its answer and its words hold

@@ -30,7 +30,7 @@ use Rattle.text_crew.specs.declared.header.Header.{Header}
 use Rattle.text_crew.specs.declared.header.Header.the-variants.{Crew, Malformed, Beyond}
 use Rattle.text_crew.specs.declared.row.Row.{Row}
 use Rattle.text_crew.specs.declared.row.Row.the-variants.{Digits, Broken}
-use Rattle.text_crew.specs.Reader.{limited, headerAt, rowDigitsAt, Read, rowsRead, badForm, badBit, withRow, nextRow, rowsTo, laid, ReadReply, readRefused, afterRows, readCrew}
+use Rattle.text_crew.specs.Reader.{longestText, bufferLength, limited, headerAt, rowDigitsAt, Read, rowsRead, badForm, badBit, withRow, nextRow, rowsTo, laid, ReadReply, readRefused, afterRows, readCrew}
 use Rattle.text_crew.specs.Conditions.{Begins, HeaderStands, RowStands, CrewRows, InOrder, HeaderBeyond, RowBeyond, HeaderBroken, RowBroken, MoreBytes, TextOf, LinesJudged, When0, When2, When3, When10, ReadFrom, ReadConditions}
 use Rattle.text_crew.proofs.Lines.{limits-broken}
 use Rattle.text_crew.proofs.Forms.{HeaderForm, header-form, header-beyond, row-has}
@@ -326,6 +326,13 @@ unfolding readRefused
 code-of k buffer e = ap (λ (x : ReadReply). x .code) (sym e)
 
 module _ (text buffer : List ℕ) where
+  -- the lengths, as the definition of the reader tests them
+  fits : LinesJudged text buffer → (length buffer ≡ bufferLength) × (length text ≤ longestText)
+  fits j =
+      let b : length buffer ≡ 512 = j .0 in
+      let l : length text ≤ 16384 = j .1 in
+      (omega arith, omega arith)
+
   rows-outcome : (j : LinesJudged text buffer) (n m at : ℕ) → headerAt text ≡ Crew n m at → (o : Read) → rowsTo text m at n ≡ o → afterRows text buffer n m o ≡ readCrew text buffer
       → Outcome text buffer
   unfolding afterRows
@@ -337,14 +344,16 @@ module _ (text buffer : List ℕ) where
   rows-outcome j n m at e badBit r a = crew a (_⊎_.inr (j, row-beyond text n m at e r))
 
   line-outcome : (j : LinesJudged text buffer) (h : Header) → headerAt text ≡ h → Outcome text buffer
-  line-outcome j (Crew n m at) e = rows-outcome j n m at e (rowsTo text m at n) refl (by-crew text buffer (j .0) (j .1) e)
-  line-outcome j Malformed e = form (by-malformed text buffer (j .0) (j .1) e) (_⊎_.inr (j, _⊎_.inl (malformed-broken text e)))
-  line-outcome j Beyond e = limits (by-beyond text buffer (j .0) (j .1) e) (j, beyond-beyond text e)
+  line-outcome j (Crew n m at) e = rows-outcome j n m at e (rowsTo text m at n) refl (by-crew text buffer (fits j .0) (fits j .1) e)
+  line-outcome j Malformed e = form (by-malformed text buffer (fits j .0) (fits j .1) e) (_⊎_.inr (j, _⊎_.inl (malformed-broken text e)))
+  line-outcome j Beyond e = limits (by-beyond text buffer (fits j .0) (fits j .1) e) (j, beyond-beyond text e)
 
   outcome : Outcome text buffer
   outcome =
-      equal-or (length buffer) 512
-      (λ b. either 16384 (length text) (λ l. form (too-long text buffer b l) (_⊎_.inl (b, l))) (λ l. line-outcome (b, l) (headerAt text) refl))
+      equal-or (length buffer) bufferLength
+      (λ b.
+      either longestText (length text) (λ l. form (too-long text buffer b l) (_⊎_.inl (omega arith, omega arith)))
+      (λ l. line-outcome (omega arith, omega arith) (headerAt text) refl))
       (λ d. crew (wrong-buffer text buffer d) (_⊎_.inl d))
 
   -- ---- each number exactly when
@@ -362,7 +371,7 @@ module _ (text buffer : List ℕ) where
       (rowsWithin-iff m rows .1 (λ u b. items-below m (getD rows u 0) (λ p. t .list .bits u p (omega arith)))) (w .0 .0)))
 
   when2 : When2 text buffer → readCrew text buffer .code ≡ 2
-  when2 w = code-of 2 buffer (by-beyond text buffer (w .0 .0) (w .0 .1) (read-beyond text (w .1)))
+  when2 w = code-of 2 buffer (by-beyond text buffer (fits (w .0) .0) (fits (w .0) .1) (read-beyond text (w .1)))
 
   when3 : When3 text buffer → readCrew text buffer .code ≡ 3
   when3 w = ⊎-elim (λ d. code-of 3 buffer (wrong-buffer text buffer d)) (λ x. bit (x .0) (x .1)) w
@@ -376,7 +385,7 @@ module _ (text buffer : List ℕ) where
           let rows = filling text (f .n) (f .m) (f .k) (f .rest) (f .order) few in
           let end = fill-bit text (f .m) _ (f .k) _ _ rows (f .n) _ (f .x) [] l (h .0) (sym (h .1)) big .0 in
           code-of 3 buffer
-          (after-bit text buffer (f .n) (f .m) _ end ∙ by-crew text buffer (j .0) (j .1) (header-here text (f .n) (f .m) (f .k) (f .rest) (f .order)))
+          (after-bit text buffer (f .n) (f .m) _ end ∙ by-crew text buffer (fits j .0) (fits j .1) (header-here text (f .n) (f .m) (f .k) (f .rest) (f .order)))
 
   when10 : When10 text buffer → readCrew text buffer .code ≡ 10
   when10 w =
@@ -384,7 +393,7 @@ module _ (text buffer : List ℕ) where
       (λ x. ⊎-elim (header (x .0)) (λ y. ⊎-elim (row (x .0)) (more (x .0)) y) (x .1)) w
     where
       header : LinesJudged text buffer → HeaderBroken text → readCrew text buffer .code ≡ 10
-      header j f = code-of 10 buffer (by-malformed text buffer (j .0) (j .1) (read-broken text f))
+      header j f = code-of 10 buffer (by-malformed text buffer (fits j .0) (fits j .1) (read-broken text f))
 
       row : LinesJudged text buffer → RowBroken text → readCrew text buffer .code ≡ 10
       row j f =
@@ -392,7 +401,7 @@ module _ (text buffer : List ℕ) where
           let rows = filling text (f .n) (f .m) (f .k) (f .rest) (f .order) (omega arith) in
           let end = fill-broken text (f .m) _ (f .k) _ _ rows (f .n) [] l (go _ refl) .0 in
           code-of 10 buffer
-          (after-form text buffer (f .n) (f .m) _ end ∙ by-crew text buffer (j .0) (j .1) (header-here text (f .n) (f .m) (f .k) (f .rest) (f .order)))
+          (after-form text buffer (f .n) (f .m) _ end ∙ by-crew text buffer (fits j .0) (fits j .1) (header-here text (f .n) (f .m) (f .k) (f .rest) (f .order)))
         where
           go : (o : Row) → rowDigitsAt text (digitsFor (f .m)) (f .k) (place text (f .n) (f .m) (f .k) (f .rest) (f .order)) ≡ o → o ≡ Broken
           go (Digits digits) e =
@@ -405,7 +414,7 @@ module _ (text buffer : List ℕ) where
           let end = fill-all text (f .m) _ (f .n) _ _ rows .0 in
           code-of 10 buffer
           (after-more text buffer (f .n) (f .m) _ _ end (λ z. f .more (goes-on text (f .n) (f .m) (f .n) (f .rest) (f .order) z))
-          ∙ by-crew text buffer (j .0) (j .1) (header-here text (f .n) (f .m) (f .n) (f .rest) (f .order)))
+          ∙ by-crew text buffer (fits j .0) (fits j .1) (header-here text (f .n) (f .m) (f .n) (f .rest) (f .order)))
 
   only2 : Outcome text buffer → readCrew text buffer .code ≡ 2 → When2 text buffer
   only2 (good e) z = absurd (omega (arith, sym e ∙ z))
@@ -482,8 +491,8 @@ module _ (text buffer : List ℕ) where
 
   judged : readCrew text buffer .code ≡ 0 → LinesJudged text buffer
   judged z =
-      equal-or (length buffer) 512
-      (λ b. (b, either 16384 (length text) (λ l. absurd (omega (arith, sym (code-of 10 buffer (too-long text buffer b l)) ∙ z))) (λ l. l)))
+      equal-or (length buffer) bufferLength
+      (λ b. (omega arith, either longestText (length text) (λ l. absurd (omega (arith, sym (code-of 10 buffer (too-long text buffer b l)) ∙ z))) (λ l. omega arith)))
       (λ d. absurd (omega (arith, sym (code-of 3 buffer (wrong-buffer text buffer d)) ∙ z)))
 
 pub read-conditions : (text buffer : List ℕ) → ReadConditions text buffer (readCrew text buffer)

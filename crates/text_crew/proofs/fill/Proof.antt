@@ -37,8 +37,8 @@ returns c =
     let q = r .before .before .before .read-rows .ensures in
     rw (e .copy .ensures ∙ putAt-whole _ _ (search needs)) (after-all _ _ _ _ _ _ _ (sym (r .end .given .1) ∙ q .0) (q .1) (t .if1 .taken))
 
-refused-requires : tie.Need-refused-requires
-refused-requires c κs = search needs
+refused-requires-1 : tie.Need-refused-requires
+refused-requires-1 c κs = search needs
 
 enum-told : tie.Need-enum-told
 enum-told c = search needs
@@ -74,7 +74,7 @@ fill-spec =
     copy-requires
     same-length
     returns
-    refused-requires
+    refused-requires-1
     enum-told
     refused-requires-2
     enum-told-2

@@ -9,7 +9,10 @@ use Rattle.text_crew.specs.Format.{digitsFor}
 use Rattle.text_crew.specs.declared.row.Row.the-variants.{Digits}
 use Rattle.text_crew.specs.Reader.{rowDigitsAt}
 use borrow.Author.Needs.{needs}
+use lib.Dec.{ltb}
 use lib.ListN.{length}
+use Rattle.sets.specs.Held.{set256}
+use Rattle.sets.specs.Sets.{collect}
 use native.Mathlib.Omega.{arith}
 use Rattle.text_crew.proofs.rows.read_rows.Statement.{statement}
 use Rattle.text_crew.proofs.rows.read_rows.Tie as tie
@@ -19,6 +22,10 @@ Inv-loop text start n m words₀ d allowed at₀ u₀ words at u = (u ≤ n) × 
 
 abbrev μ-loop : tie.MeasureT-loop
 μ-loop text start n m words₀ d allowed at₀ u₀ words at u = n - u
+
+-- the bits that are allowed
+allowed : (c : tie.At-loop Inv-loop μ-loop) → set256 (c .before .below .result) ≡ collect 256 (λ i. ltb i (c .before .before .before .before .args .m))
+allowed c = c .before .below .ensures
 
 -- ---- a row that was read
 
@@ -77,7 +84,7 @@ returns-2 : tie.Need-returns-2 Inv-loop μ-loop
 unfolding digitsFor
 returns-2 c =
     let g = c .before .before .before .before in
-    let bit = bit-no _ _ _ (omega arith) (c .before .is-subset .ensures) (at-loop g .before .below .ensures) (c .if1 .taken) in
+    let bit = bit-no _ _ _ (omega arith) (c .before .is-subset .ensures) (allowed (at-loop g)) (c .if1 .taken) in
     fill-bit _ _ _ _ _ _ (at-loop g .loop .inv .3) _ _ _ _ (g .before .before .before .loop-test .taken) (row g) (c .before .before .hexadecimal-set .ensures) bit
 
 mul-store256 : tie.Need-mul-store256 Inv-loop μ-loop
@@ -104,9 +111,8 @@ loop-again : tie.Need-loop-again Inv-loop μ-loop
 unfolding digitsFor
 loop-again c =
     let g = at-digits c in
-    let b = at-loop g .before .below .ensures in
     let t = c .before .before .before .before in
-    let bit = bit-yes _ _ _ (omega arith) (t .before .is-subset .ensures) b (t .if1 .left) in
+    let bit = bit-yes _ _ _ (omega arith) (t .before .is-subset .ensures) (allowed (at-loop g)) (t .if1 .left) in
     let f = fill-more _ _ _ _ _ _ (at-loop g .loop .inv .3) _ _ _ (omega arith) (row g) (t .before .before .hexadecimal-set .ensures) bit (c .before .before .store256 .ensures) in
     (omega arith, search needs, omega arith, f)
 
