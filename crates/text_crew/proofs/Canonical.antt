@@ -318,7 +318,7 @@ pub record Accepted (text buffer : List ℕ) : Type 0 where
   pub within : So (rowsWithin permissions rows)
   pub canonical : text ≡ crewText users permissions rows
 
--- a readRefused is no acceptance
+-- a refusal is no acceptance
 refused-not : (text buffer : List ℕ) (k : ℕ) → readRefused (suc k) buffer ≡ readCrew text buffer → readCrew text buffer .code ≡ 0 → Accepted text buffer
 unfolding readRefused
 refused-not text buffer k e z = let y : suc k ≡ 0 = ap (λ (x : ReadReply). x .code) e ∙ z in absurd (omega arith)
