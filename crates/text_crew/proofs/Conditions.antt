@@ -51,15 +51,17 @@ begins-iff text bytes = (
         let rest = drop (length bytes) text in
         let l : 0 + length bytes ≤ length text = holds-end text 0 bytes s in
         let n : length (drop (length bytes) text) ≡ length text - length bytes = length-drop (length bytes) text in
-        let a : length (bytes ++ drop (length bytes) text) ≡ length bytes + length (drop (length bytes) text) = length-append bytes (drop (length bytes) text) in
+        let a : length (bytes ++ drop (length bytes) text) ≡ length bytes + length (drop (length bytes) text) = length-append bytes rest in
         let t : So (holds text (0 + length bytes) rest) =
-        holds-iff text (0 + length bytes) rest .1 (omega arith, λ i _. ap (λ (x : ℕ). getD text (x + i) 0) (zero-add (length bytes)) ∙ sym (getD-drop (length bytes) text i 0)) in
+        holds-iff text (0 + length bytes) rest .1
+        (omega arith, λ i _. ap (λ (x : ℕ). getD text (x + i) 0) (zero-add (length bytes)) ∙ sym (getD-drop (length bytes) text i 0)) in
         holds-whole text (bytes ++ rest) (holds-append text 0 bytes rest .1 (s, t)) (omega arith)
 
 after-iff : (xs ys bytes : List ℕ) → So (holds (xs ++ ys) (length xs) bytes) ↔ So (holds ys 0 bytes)
 after-iff xs ys bytes =
     let n : length (xs ++ ys) ≡ length xs + length ys = length-append xs ys in
-    let same : (i : ℕ) → getD ys (0 + i) 0 ≡ getD (xs ++ ys) (length xs + i) 0 = λ i. ap (λ (x : ℕ). getD ys x 0) (zero-add i) ∙ sym (getD-append-add xs ys i 0) in (
+    let same : (i : ℕ) → getD ys (0 + i) 0 ≡ getD (xs ++ ys) (length xs + i) 0 =
+    λ i. ap (λ (x : ℕ). getD ys x 0) (zero-add i) ∙ sym (getD-append-add xs ys i 0) in (
       λ s.
           let k = holds-iff (xs ++ ys) (length xs) bytes .0 s in
           let l : length xs + length bytes ≤ length (xs ++ ys) = k .0 in
@@ -122,12 +124,17 @@ module _ (text : List ℕ) where
   beyond-beyond e =
       let b = header-beyond text e in
       let s = b .0 in
-      record { n = s .n; m = s .m; header = form-stands (s .n) (s .m) (s .at) (s .form); beyond = λ l. So-not (b .1) (withinLimits-iff (s .n) (s .m) .1 l) }
+      record {
+        n = s .n;
+        m = s .m;
+        header = form-stands (s .n) (s .m) (s .at) (s .form);
+        beyond = λ l. So-not (b .1) (withinLimits-iff (s .n) (s .m) .1 l);
+      }
 
   read-beyond : HeaderBeyond text → headerAt text ≡ Beyond
   read-beyond f =
-      stands-read (f .n) (f .m) (f .header)
-      ∙ sym (limits-broken (f .n) (f .m) (length (headerLine (f .n) (f .m))) (not-So (withinLimits (f .n) (f .m)) (λ s. f .beyond (withinLimits-iff (f .n) (f .m) .0 s))))
+      let no = not-So (withinLimits (f .n) (f .m)) (λ s. f .beyond (withinLimits-iff (f .n) (f .m) .0 s)) in
+      stands-read (f .n) (f .m) (f .header) ∙ sym (limits-broken (f .n) (f .m) (length (headerLine (f .n) (f .m))) no)
 
   read-broken : HeaderBroken text → headerAt text ≡ Malformed
   read-broken f = go (headerAt text) refl
@@ -181,7 +188,8 @@ module _ (text : List ℕ) (n m k : ℕ) (rest : List ℕ) (f : InOrder text n m
         let c : length (f .rows) ≡ k = f .list .count in
         let l : n ≤ 128 = f .list .limits .1 in
         let there = holds-append text 0 (headerLine n m) (rowLines m (f .rows) k) .0 (begins-iff text front .1 (rest, front-rest)) .1 in
-        rows-read text m (length (headerLine n m)) (f .rows) k (omega arith) (omega arith) (λ u b. items-below m (getD (f .rows) u 0) (λ p. f .list .bits u p b))
+        rows-read text m (length (headerLine n m)) (f .rows) k (omega arith) (omega arith)
+        (λ u b. items-below m (getD (f .rows) u 0) (λ p. f .list .bits u p b))
         (rw (zero-add (length (headerLine n m))) at there)
         ∙ ap (λ (x : List ℕ). rowsRead x place) (take-all k (f .rows) (omega arith))
 
@@ -189,16 +197,18 @@ module _ (text : List ℕ) (n m k : ℕ) (rest : List ℕ) (f : InOrder text n m
     filling = record { rows = f .rows; read = rows-here; count = f .list .count; held = refl }
 
     row-here : (x : ℕ) → RowStands rest m k x
-        → (rowDigitsAt text (digitsFor m) k place ≡ Digits (place + length (decimal k) + 1)) × (hexadecimalValue (digitsFor m) text (place + length (decimal k) + 1) ≡ x)
+        → (rowDigitsAt text (digitsFor m) k place ≡ Digits (place + length (decimal k) + 1))
+        × (hexadecimalValue (digitsFor m) text (place + length (decimal k) + 1) ≡ x)
     row-here x s =
         let l : n ≤ 128 = f .list .limits .1 in
         row-read text m k place x (omega arith) (s .0) (rest-iff (rowLine m k x) .1 (s .1))
 
   row-stands : (digits : ℕ) → rowDigitsAt text (digitsFor m) k place ≡ Digits digits → RowStands rest m k (hexadecimalValue (digitsFor m) text digits)
-  row-stands digits e = (
-    rw (sixteen (digitsFor m)) (hex-lt (digitsFor m) text digits (hex-digit (digitsFor m) text digits (row-has text (digitsFor m) k place digits e))),
-    rest-iff (rowLine m k (hexadecimalValue (digitsFor m) text digits)) .0 (row-written text m k place digits (hexadecimalValue (digitsFor m) text digits) e refl .0),
-  )
+  row-stands digits e =
+      let x = hexadecimalValue (digitsFor m) text digits in (
+        rw (sixteen (digitsFor m)) (hex-lt (digitsFor m) text digits (hex-digit (digitsFor m) text digits (row-has text (digitsFor m) k place digits e))),
+        rest-iff (rowLine m k x) .0 (row-written text m k place digits x e refl .0),
+      )
 
 -- ---- and from where the reader came to a text that is in order so far
 
@@ -207,7 +217,8 @@ record Reached (text : List ℕ) (n m k p : ℕ) : Type 0 where
   order : InOrder text n m k rest
   at-place : p ≡ place text n m k rest order
 
-reached : (text : List ℕ) (n m at k : ℕ) (rows : List ℕ) (p : ℕ) → headerAt text ≡ Crew n m at → rowsTo text m at k ≡ rowsRead rows p → Reached text n m k p
+reached : (text : List ℕ) (n m at k : ℕ) (rows : List ℕ) (p : ℕ) → headerAt text ≡ Crew n m at → rowsTo text m at k ≡ rowsRead rows p
+    → Reached text n m k p
 reached text n m at k rows p e r =
     let f = header-form text n m at e in
     let h = header-written text n m at (f .0) in
@@ -242,7 +253,8 @@ module _ (text : List ℕ) (m at : ℕ) (o : Read) (d : (rows : List ℕ) (p : �
   later : (u : ℕ) → FirstFault text m at u o → FirstFault text m at (suc u) o
   later u f = record { k = f .k; rows = f .rows; p = f .p; below = le-step (f .below); before = f .before; fault = f .fault }
 
-  at-row : (u : ℕ) (before : Read) → rowsTo text m at u ≡ before → (rowsTo text m at u ≡ o → FirstFault text m at u o) → nextRow text m u before ≡ o → FirstFault text m at (suc u) o
+  at-row : (u : ℕ) (before : Read) → rowsTo text m at u ≡ before → (rowsTo text m at u ≡ o → FirstFault text m at u o) → nextRow text m u before ≡ o
+      → FirstFault text m at (suc u) o
   unfolding nextRow
   at-row u (rowsRead rows p) e more f = record { k = u; rows = rows; p = p; below = lt-suc-self u; before = e; fault = f }
   at-row u badForm e more f = later u (more (e ∙ f))
@@ -287,7 +299,10 @@ module _ (text : List ℕ) (n m at : ℕ) (e : headerAt text ≡ Crew n m at) wh
         rest = q .rest;
         order = q .order;
         one-more = l;
-        broken = λ x s. let h = row-here text n m (f .k) (q .rest) (q .order) (omega arith) x s .0 in let z : _≡_ {A = ℕ} 0 1 = cc in let no : ⊥ = omega arith in no;
+        broken = λ x s.
+            let h = row-here text n m (f .k) (q .rest) (q .order) (omega arith) x s .0 in
+            let z : _≡_ {A = ℕ} 0 1 = cc in
+            let no : ⊥ = omega arith in no;
       }
 
   row-beyond : rowsTo text m at n ≡ badBit → RowBeyond text
@@ -333,8 +348,8 @@ module _ (text buffer : List ℕ) where
       let l : length text ≤ 16384 = j .1 in
       (omega arith, omega arith)
 
-  rows-outcome : (j : LinesJudged text buffer) (n m at : ℕ) → headerAt text ≡ Crew n m at → (o : Read) → rowsTo text m at n ≡ o → afterRows text buffer n m o ≡ readCrew text buffer
-      → Outcome text buffer
+  rows-outcome : (j : LinesJudged text buffer) (n m at : ℕ) → headerAt text ≡ Crew n m at → (o : Read) → rowsTo text m at n ≡ o
+      → afterRows text buffer n m o ≡ readCrew text buffer → Outcome text buffer
   unfolding afterRows
   rows-outcome j n m at e (rowsRead rows end) r a =
       if-cases (eqb end (length text)) (record { code = 0; n = n; m = m; words = laid rows }) (readRefused 10 buffer) (readCrew text buffer) a
@@ -355,6 +370,11 @@ module _ (text buffer : List ℕ) where
       either longestText (length text) (λ l. form (too-long text buffer b l) (_⊎_.inl (omega arith, omega arith)))
       (λ l. line-outcome (omega arith, omega arith) (headerAt text) refl))
       (λ d. crew (wrong-buffer text buffer d) (_⊎_.inl d))
+
+  -- where the header and k rows are in order, the rows decide
+  by-rows : LinesJudged text buffer → (n m k : ℕ) (rest : List ℕ) → InOrder text n m k rest
+      → afterRows text buffer n m (rowsTo text m (length (headerLine n m)) n) ≡ readCrew text buffer
+  by-rows j n m k rest f = by-crew text buffer (fits j .0) (fits j .1) (header-here text n m k rest f)
 
   -- ---- each number exactly when
 
@@ -384,8 +404,7 @@ module _ (text buffer : List ℕ) where
           let big : ltb (f .x) (2 ^ f .m) ≡ false = le-ltb (f .x) (2 ^ f .m) (above-big (f .m) (f .x) (f .bit .0) (f .bit .1) (f .bit .2)) in
           let rows = filling text (f .n) (f .m) (f .k) (f .rest) (f .order) few in
           let end = fill-bit text (f .m) _ (f .k) _ _ rows (f .n) _ (f .x) [] l (h .0) (sym (h .1)) big .0 in
-          code-of 3 buffer
-          (after-bit text buffer (f .n) (f .m) _ end ∙ by-crew text buffer (fits j .0) (fits j .1) (header-here text (f .n) (f .m) (f .k) (f .rest) (f .order)))
+          code-of 3 buffer (after-bit text buffer (f .n) (f .m) _ end ∙ by-rows j (f .n) (f .m) (f .k) (f .rest) (f .order))
 
   when10 : When10 text buffer → readCrew text buffer .code ≡ 10
   when10 w =
@@ -400,12 +419,12 @@ module _ (text buffer : List ℕ) where
           let l : f .k < f .n = f .one-more in
           let rows = filling text (f .n) (f .m) (f .k) (f .rest) (f .order) (omega arith) in
           let end = fill-broken text (f .m) _ (f .k) _ _ rows (f .n) [] l (go _ refl) .0 in
-          code-of 10 buffer
-          (after-form text buffer (f .n) (f .m) _ end ∙ by-crew text buffer (fits j .0) (fits j .1) (header-here text (f .n) (f .m) (f .k) (f .rest) (f .order)))
+          code-of 10 buffer (after-form text buffer (f .n) (f .m) _ end ∙ by-rows j (f .n) (f .m) (f .k) (f .rest) (f .order))
         where
           go : (o : Row) → rowDigitsAt text (digitsFor (f .m)) (f .k) (place text (f .n) (f .m) (f .k) (f .rest) (f .order)) ≡ o → o ≡ Broken
           go (Digits digits) e =
-              absurd (f .broken (hexadecimalValue (digitsFor (f .m)) text digits) (row-stands text (f .n) (f .m) (f .k) (f .rest) (f .order) digits e))
+              let x = hexadecimalValue (digitsFor (f .m)) text digits in
+              absurd (f .broken x (row-stands text (f .n) (f .m) (f .k) (f .rest) (f .order) digits e))
           go Broken e = refl
 
       more : LinesJudged text buffer → MoreBytes text → readCrew text buffer .code ≡ 10
@@ -414,7 +433,7 @@ module _ (text buffer : List ℕ) where
           let end = fill-all text (f .m) _ (f .n) _ _ rows .0 in
           code-of 10 buffer
           (after-more text buffer (f .n) (f .m) _ _ end (λ z. f .more (goes-on text (f .n) (f .m) (f .n) (f .rest) (f .order) z))
-          ∙ by-crew text buffer (fits j .0) (fits j .1) (header-here text (f .n) (f .m) (f .n) (f .rest) (f .order)))
+          ∙ by-rows j (f .n) (f .m) (f .n) (f .rest) (f .order))
 
   only2 : Outcome text buffer → readCrew text buffer .code ≡ 2 → When2 text buffer
   only2 (good e) z = absurd (omega (arith, sym e ∙ z))
@@ -472,7 +491,8 @@ module _ (text buffer : List ℕ) where
       record {
         limits = withinLimits-iff (a .users) (a .permissions) .0 (a .limits);
         count = c;
-        bits = λ u p l t. item-below (a .permissions) (getD (a .rows) u 0) p (rowsWithin-iff (a .permissions) (a .rows) .0 (a .within) u (omega arith)) t;
+        bits = λ u p l t.
+            item-below (a .permissions) (getD (a .rows) u 0) p (rowsWithin-iff (a .permissions) (a .rows) .0 (a .within) u (omega arith)) t;
       } in
       record { list = list; lines = a .canonical }
 
@@ -492,7 +512,10 @@ module _ (text buffer : List ℕ) where
   judged : readCrew text buffer .code ≡ 0 → LinesJudged text buffer
   judged z =
       equal-or (length buffer) bufferLength
-      (λ b. (omega arith, either longestText (length text) (λ l. absurd (omega (arith, sym (code-of 10 buffer (too-long text buffer b l)) ∙ z))) (λ l. omega arith)))
+      (λ b. (
+        omega arith,
+        either longestText (length text) (λ l. absurd (omega (arith, sym (code-of 10 buffer (too-long text buffer b l)) ∙ z))) (λ l. omega arith),
+      ))
       (λ d. absurd (omega (arith, sym (code-of 3 buffer (wrong-buffer text buffer d)) ∙ z)))
 
 pub read-conditions : (text buffer : List ℕ) → ReadConditions text buffer (readCrew text buffer)

@@ -44,13 +44,14 @@ pub record HeaderSeen (text : List ℕ) (h : Header) : Type 0 where
   pub limits : limited n m at ≡ h
 
 module _ (text : List ℕ) (h : Header) (d : h ≢ Malformed) where
-  header-second : (n next : ℕ) → So (holds text 0 crewWord) → decimalAt text 5 ≡ Number n next → So (holds text next comma) → (o : Decimal) → decimalAt text (next + 1) ≡ o
-      → headerEnd text n o ≡ h → HeaderSeen text h
+  header-second : (n next : ℕ) → So (holds text 0 crewWord) → decimalAt text 5 ≡ Number n next → So (holds text next comma)
+      → (o : Decimal) → decimalAt text (next + 1) ≡ o → headerEnd text n o ≡ h → HeaderSeen text h
   unfolding headerEnd
   header-second n next w a b (Number m end) c e =
       if-cases (holds text end lineEnd) (limited n m (end + 1)) Malformed h e
       (λ l f.
-      let form : HeaderForm text n m (end + 1) = record { next = next; end = end; word-there = w; users = a; comma-there = b; permissions = c; end-there = l; place = refl } in
+      let form : HeaderForm text n m (end + 1) =
+      record { next = next; end = end; word-there = w; users = a; comma-there = b; permissions = c; end-there = l; place = refl } in
       record { n = n; m = m; at = end + 1; form = form; limits = f })
       (λ _ f. absurd (d (sym f)))
   header-second n next w a b Nothing c e = absurd (d (sym e))

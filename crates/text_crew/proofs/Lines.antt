@@ -193,7 +193,8 @@ pub record DigitsRead (text : List ℕ) (d u at digits end : ℕ) : Type 0 where
   pub digits-there : hexadecimalAt d text (so-far .next + 1) ≡ true
   pub place : end ≡ so-far .next + 1 + d
 
-module _ (text : List ℕ) (u at : ℕ) {v next : ℕ} (a : decimalAt text at ≡ Number v next) (b : v ≡ u) {r : Field} (h : r ≡ fixedAt text next comma) where
+module _ (text : List ℕ) (u at : ℕ) {v next : ℕ} (a : decimalAt text at ≡ Number v next) (b : v ≡ u)
+    {r : Field} (h : r ≡ fixedAt text next comma) where
   pub no-row-comma : (d : ℕ) → r ≡ Missing → Broken ≡ rowDigitsAt text d u at
   no-row-comma d m = row-comma text d u at a b (fixed-missing text next comma h m)
 

@@ -55,13 +55,18 @@ refused-requires-3 c κs = search needs
 returns-2 : tie.Need-returns-2
 returns-2 c =
     let r = c .before .before .before in
-    refused-is _ _ _ (c .refused .ensures) ∙ after-more _ _ _ _ _ _ (sym (r .end .given .1) ∙ r .before .before .before .read-rows .ensures .0) (c .before .if1 .left)
+    let e = sym (r .end .given .1) ∙ r .before .before .before .read-rows .ensures .0 in
+    refused-is _ _ _ (c .refused .ensures) ∙ after-more _ _ _ _ _ _ e (c .before .if1 .left)
 
 returns-3 : tie.Need-returns-3
-returns-3 c = let r = c .before in refused-is _ _ _ (c .refused2 .ensures) ∙ after-form _ _ _ _ _ (sym (r .enum-told .given .1) ∙ r .before .before .before .read-rows .ensures .0)
+returns-3 c =
+    let r = c .before in
+    refused-is _ _ _ (c .refused2 .ensures) ∙ after-form _ _ _ _ _ (sym (r .enum-told .given .1) ∙ r .before .before .before .read-rows .ensures .0)
 
 returns-4 : tie.Need-returns-4
-returns-4 c = let r = c .before in refused-is _ _ _ (c .refused3 .ensures) ∙ after-bit _ _ _ _ _ (sym (r .enum-told2 .given .1) ∙ r .before .before .before .read-rows .ensures .0)
+returns-4 c =
+    let r = c .before in
+    refused-is _ _ _ (c .refused3 .ensures) ∙ after-bit _ _ _ _ _ (sym (r .enum-told2 .given .1) ∙ r .before .before .before .read-rows .ensures .0)
 
 pub fill-spec : {M : Type 1} → statement M
 fill-spec =

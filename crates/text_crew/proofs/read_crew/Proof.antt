@@ -13,7 +13,8 @@ use Rattle.text_crew.proofs.read_crew.Tie as tie
 
 -- the header's fields
 header : (c : tie.After-n)
-    → headerAt (c .before .before .before .before .before .before .before .args .text .now) ≡ Crew (c .n .given .0 .0) (c .n .given .0 .1 .0) (c .n .given .0 .1 .1 .0)
+    → let v = c .n .given .0 in
+    headerAt (c .before .before .before .before .before .before .before .args .text .now) ≡ Crew (v .0) (v .1 .0) (v .1 .1 .0)
 header c = sym (c .before .before .read-header .ensures) ∙ c .n .given .1
 
 refused-requires : tie.Need-refused-requires
@@ -58,12 +59,14 @@ returns-3 c = let f = c .before .before in f .fill .ensures ∙ by-crew _ _ (ome
 returns-4 : tie.Need-returns-4
 returns-4 c =
     let e = c .before in
-    refused-is _ _ _ (c .refused3 .ensures) ∙ by-malformed _ _ (omega arith) (omega arith) (sym (e .before .before .read-header .ensures) ∙ e .enum-told .given .1)
+    refused-is _ _ _ (c .refused3 .ensures)
+    ∙ by-malformed _ _ (omega arith) (omega arith) (sym (e .before .before .read-header .ensures) ∙ e .enum-told .given .1)
 
 returns-5 : tie.Need-returns-5
 returns-5 c =
     let e = c .before in
-    refused-is _ _ _ (c .refused4 .ensures) ∙ by-beyond _ _ (omega arith) (omega arith) (sym (e .before .before .read-header .ensures) ∙ e .enum-told2 .given .1)
+    refused-is _ _ _ (c .refused4 .ensures)
+    ∙ by-beyond _ _ (omega arith) (omega arith) (sym (e .before .before .read-header .ensures) ∙ e .enum-told2 .given .1)
 
 pub read-crew-spec : {M : Type 1} → statement M
 read-crew-spec =

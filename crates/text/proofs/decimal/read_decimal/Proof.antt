@@ -59,7 +59,8 @@ returns-4 : tie.Need-returns-4
 returns-4 c =
     let d = c .before in
     let b = second d in
-    decimal-two _ _ (first b .digit-at .ensures .0) (omega arith) (d .before .if3 .left) (b .digit-at2 .ensures .0) (omega arith) (d .digit-at3 .ensures .0) (omega arith)
+    decimal-two _ _ (first b .digit-at .ensures .0) (omega arith) (d .before .if3 .left) (b .digit-at2 .ensures .0) (omega arith)
+    (d .digit-at3 .ensures .0) (omega arith)
 
 add-digit-at-3 : tie.Need-add-digit-at-3
 add-digit-at-3 c = omega (arith, decimal-inside _ _ (c .before .digit-at3 .ensures .0) (omega arith))
@@ -87,14 +88,16 @@ returns-5 c =
     let e = c .before in
     let d = third e in
     let b = second d in
-    decimal-three _ _ (first b .digit-at .ensures .0) (omega arith) (d .before .if3 .left) (b .digit-at2 .ensures .0) (omega arith) (d .digit-at3 .ensures .0) (omega arith) (e .digit-at4 .ensures .0) (omega arith)
+    decimal-three _ _ (first b .digit-at .ensures .0) (omega arith) (d .before .if3 .left) (b .digit-at2 .ensures .0) (omega arith)
+    (d .digit-at3 .ensures .0) (omega arith) (e .digit-at4 .ensures .0) (omega arith)
 
 returns-6 : tie.Need-returns-6
 returns-6 c =
     let e = c .before in
     let d = third e in
     let b = second d in
-    decimal-four _ _ (first b .digit-at .ensures .0) (omega arith) (d .before .if3 .left) (b .digit-at2 .ensures .0) (omega arith) (d .digit-at3 .ensures .0) (omega arith) (e .digit-at4 .ensures .0) (omega arith)
+    decimal-four _ _ (first b .digit-at .ensures .0) (omega arith) (d .before .if3 .left) (b .digit-at2 .ensures .0) (omega arith)
+    (d .digit-at3 .ensures .0) (omega arith) (e .digit-at4 .ensures .0) (omega arith)
 
 pub read-decimal-spec : {M : Type 1} → statement M
 read-decimal-spec =

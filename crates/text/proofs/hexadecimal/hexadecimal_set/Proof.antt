@@ -62,7 +62,8 @@ returns c =
     let w1 = w2 .before in
     let w0 = w1 .before in
     let n = w0 .before in
-    let words = hex-words _ _ _ _ _ _ _ _ _ _ (n .before .before .before .before .pre .0) (n .before .before .above .ensures) (n .before .above2 .ensures) (n .above3 .ensures) in
+    let words =
+    hex-words _ _ _ _ _ _ _ _ _ _ (n .before .before .before .before .pre .0) (n .before .before .above .ensures) (n .before .above2 .ensures) (n .above3 .ensures) in
     c .from-words .ensures ∙ words (w0 .word-of .ensures) (w1 .word-of2 .ensures) (w2 .word-of3 .ensures) (w3 .word-of4 .ensures)
 
 pub hexadecimal-set-spec : {M : Type 1} → statement M

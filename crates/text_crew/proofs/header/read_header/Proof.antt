@@ -30,7 +30,8 @@ parted c = comma-read _ (users (at-n c)) (c .before .before .read-fixed2 .ensure
 abbrev at-permissions : tie.After-m → tie.After-permissions
 at-permissions c = c .before .before .before .before
 
-both : (c : tie.After-m) → BothRead (text (at-users (at-n (at-permissions c)))) (at-n (at-permissions c) .n .given .0 .0) (c .m .given .0 .0) (c .m .given .0 .1 .0)
+both : (c : tie.After-m)
+    → let n = at-n (at-permissions c) in BothRead (text (at-users n)) (n .n .given .0 .0) (c .m .given .0 .0) (c .m .given .0 .1 .0)
 both c = both-read _ (parted (at-permissions c)) (c .before .before .read-decimal2 .ensures) (c .m .given .1)
 
 -- ---- the needs

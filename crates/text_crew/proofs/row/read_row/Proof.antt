@@ -10,7 +10,9 @@ use Rattle.text_crew.proofs.row.read_row.Tie as tie
 
 -- ---- what is known after each field
 
-number : (c : tie.After-value) → let a = c .before .before .before .before .args in decimalAt (a .text .now) (a .at) ≡ Number (c .value .given .0 .0) (c .value .given .0 .1 .0)
+number : (c : tie.After-value)
+    → let a = c .before .before .before .before .args in
+    decimalAt (a .text .now) (a .at) ≡ Number (c .value .given .0 .0) (c .value .given .0 .1 .0)
 number c = sym (c .before .before .read-decimal .ensures) ∙ c .value .given .1
 
 abbrev at-value : tie.After-digits → tie.After-value
@@ -20,12 +22,16 @@ abbrev begun : tie.After-digits → tie.Start
 begun c = at-value c .before .before .before .before
 
 parted : (c : tie.After-digits) → let a = begun c .args in NumberRead (a .text .now) (a .u) (a .at) (c .digits .given .0 .0)
-parted c = number-read _ _ _ (number (at-value c)) (c .before .before .before .before .if1 .left) (c .before .before .read-fixed .ensures) (c .digits .given .1)
+parted c =
+    let r = c .before .before in
+    number-read _ _ _ (number (at-value c)) (r .before .before .if1 .left) (r .read-fixed .ensures) (c .digits .given .1)
 
 abbrev at-digits : tie.After-end → tie.After-digits
 at-digits c = c .before .before .before .before
 
-digits : (c : tie.After-end) → let a = begun (at-digits c) .args in DigitsRead (a .text .now) (a .d) (a .u) (a .at) (at-digits c .digits .given .0 .0) (c .end .given .0 .0)
+digits : (c : tie.After-end)
+    → let a = begun (at-digits c) .args in
+    DigitsRead (a .text .now) (a .d) (a .u) (a .at) (at-digits c .digits .given .0 .0) (c .end .given .0 .0)
 digits c = digits-read _ _ _ _ (parted (at-digits c)) (c .before .before .read-hexadecimal .ensures) (c .end .given .1)
 
 -- ---- the needs

@@ -18,13 +18,15 @@ use Rattle.text_crew.proofs.rows.read_rows.Statement.{statement}
 use Rattle.text_crew.proofs.rows.read_rows.Tie as tie
 
 abbrev Inv-loop : tie.InvT-loop
-Inv-loop text start n m words₀ d allowed at₀ u₀ words at u = (u ≤ n) × (length words ≡ length words₀) × (length words₀ ≡ 512) × Filling text m start u at words
+Inv-loop text start n m words₀ d allowed at₀ u₀ words at u =
+    (u ≤ n) × (length words ≡ length words₀) × (length words₀ ≡ 512) × Filling text m start u at words
 
 abbrev μ-loop : tie.MeasureT-loop
 μ-loop text start n m words₀ d allowed at₀ u₀ words at u = n - u
 
 -- the bits that are allowed
-allowed : (c : tie.At-loop Inv-loop μ-loop) → set256 (c .before .below .result) ≡ collect 256 (λ i. ltb i (c .before .before .before .before .args .m))
+allowed : (c : tie.At-loop Inv-loop μ-loop)
+    → set256 (c .before .below .result) ≡ collect 256 (λ i. ltb i (c .before .before .before .before .args .m))
 allowed c = c .before .below .ensures
 
 -- ---- a row that was read
@@ -85,7 +87,8 @@ unfolding digitsFor
 returns-2 c =
     let g = c .before .before .before .before in
     let bit = bit-no _ _ _ (omega arith) (c .before .is-subset .ensures) (allowed (at-loop g)) (c .if1 .taken) in
-    fill-bit _ _ _ _ _ _ (at-loop g .loop .inv .3) _ _ _ _ (g .before .before .before .loop-test .taken) (row g) (c .before .before .hexadecimal-set .ensures) bit
+    fill-bit _ _ _ _ _ _ (at-loop g .loop .inv .3) _ _ _ _ (g .before .before .before .loop-test .taken) (row g)
+    (c .before .before .hexadecimal-set .ensures) bit
 
 mul-store256 : tie.Need-mul-store256 Inv-loop μ-loop
 mul-store256 c = search needs
@@ -113,7 +116,9 @@ loop-again c =
     let g = at-digits c in
     let t = c .before .before .before .before in
     let bit = bit-yes _ _ _ (omega arith) (t .before .is-subset .ensures) (allowed (at-loop g)) (t .if1 .left) in
-    let f = fill-more _ _ _ _ _ _ (at-loop g .loop .inv .3) _ _ _ (omega arith) (row g) (t .before .before .hexadecimal-set .ensures) bit (c .before .before .store256 .ensures) in
+    let f =
+    fill-more _ _ _ _ _ _ (at-loop g .loop .inv .3) _ _ _ (omega arith) (row g) (t .before .before .hexadecimal-set .ensures) bit
+    (c .before .before .store256 .ensures) in
     (omega arith, search needs, omega arith, f)
 
 same-length-3 : tie.Need-same-length-3 Inv-loop μ-loop
