@@ -4,3 +4,4 @@ pub mod Laid
 pub mod Answers
 pub mod Canonical
 pub mod Conditions
+pub mod Sample
