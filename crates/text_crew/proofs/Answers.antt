@@ -83,7 +83,8 @@ module _ (text : List ℕ) (m start u at : ℕ) (words : List ℕ) (f : Filling 
   unfolding rowsTo nextRow
   step o e = rw (f .read, e) refl
 
-  pub fill-more : (digits s : ℕ) (after : List ℕ) → u < 128 → rowDigitsAt text (digitsFor m) u at ≡ Digits digits → s ≡ hexadecimalValue (digitsFor m) text digits → So (ltb s (2 ^ m))
+  pub fill-more : (digits s : ℕ) (after : List ℕ) → u < 128 → rowDigitsAt text (digitsFor m) u at ≡ Digits digits
+      → s ≡ hexadecimalValue (digitsFor m) text digits → So (ltb s (2 ^ m))
       → after ≡ putAt words (4 * u) (wordsOf 4 s)
       → Filling text m start (u + 1) (digits + digitsFor m + 1) after
   unfolding withRow
@@ -103,7 +104,8 @@ module _ (text : List ℕ) (m start u at : ℕ) (words : List ℕ) (f : Filling 
       let r : rowsTo text m start n ≡ badForm = rw k at (form-stays text m start u (step Broken e) (n - suc u)) in
       rw r (refl, tt)
 
-  pub fill-bit : (n digits s : ℕ) (after : List ℕ) → u < n → rowDigitsAt text (digitsFor m) u at ≡ Digits digits → s ≡ hexadecimalValue (digitsFor m) text digits → ltb s (2 ^ m) ≡ false
+  pub fill-bit : (n digits s : ℕ) (after : List ℕ) → u < n → rowDigitsAt text (digitsFor m) u at ≡ Digits digits
+      → s ≡ hexadecimalValue (digitsFor m) text digits → ltb s (2 ^ m) ≡ false
       → (BadBit ≡ rowsEnd (rowsTo text m start n)) × RowsLaid (rowsTo text m start n) after
   unfolding withRow rowsEnd RowsLaid
   fill-bit n digits s after h e es b =

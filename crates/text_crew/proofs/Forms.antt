@@ -105,7 +105,8 @@ row-none : (text : List ℕ) (d u digits : ℕ) → rowRest text d u Nothing ≡
 unfolding rowRest
 row-none text d u digits e = let z : _≡_ {A = ℕ} 0 1 = cc in omega arith
 
-row-some : (text : List ℕ) (d u at digits v next : ℕ) → decimalAt text at ≡ Number v next → rowRest text d u (Number v next) ≡ Digits digits → RowForm text d u at digits
+row-some : (text : List ℕ) (d u at digits v next : ℕ) → decimalAt text at ≡ Number v next → rowRest text d u (Number v next) ≡ Digits digits
+    → RowForm text d u at digits
 unfolding rowRest
 row-some text d u at digits v next a e =
     if-cases (eqb v u and holds text next comma and hexadecimalAt d text (next + 1) and holds text (next + 1 + d) lineEnd) (Digits (next + 1)) Broken (Digits digits) e

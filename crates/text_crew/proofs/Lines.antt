@@ -71,11 +71,13 @@ module _ (text : List ℕ) where
     unfolding headerEnd
     header-permissions c d = sym (header-second c d)
 
-    pub header-end : {m end : ℕ} → holds text next comma ≡ true → decimalAt text (next + 1) ≡ Number m end → holds text end lineEnd ≡ false → Malformed ≡ headerAt text
+    pub header-end : {m end : ℕ} → holds text next comma ≡ true → decimalAt text (next + 1) ≡ Number m end → holds text end lineEnd ≡ false
+        → Malformed ≡ headerAt text
     unfolding headerEnd
     header-end c d e = sym (header-second c d ∙ if-false _ _ _ e)
 
-    pub header-whole : {m end : ℕ} → holds text next comma ≡ true → decimalAt text (next + 1) ≡ Number m end → holds text end lineEnd ≡ true → limited n m (end + 1) ≡ headerAt text
+    pub header-whole : {m end : ℕ} → holds text next comma ≡ true → decimalAt text (next + 1) ≡ Number m end → holds text end lineEnd ≡ true
+        → limited n m (end + 1) ≡ headerAt text
     unfolding headerEnd
     header-whole c d e = sym (header-second c d ∙ if-true _ _ _ e)
 
@@ -155,12 +157,14 @@ module _ (text : List ℕ) (d u at : ℕ) where
     unfolding rowDigitsAt rowRest
     row-by = ap (rowRest text d u) a
 
-    row-fails : (v ≡ u → So (holds text next comma) → So (hexadecimalAt d text (next + 1)) → So (holds text (next + 1 + d) lineEnd) → ⊥) → Broken ≡ rowDigitsAt text d u at
+    row-fails : (v ≡ u → So (holds text next comma) → So (hexadecimalAt d text (next + 1)) → So (holds text (next + 1 + d) lineEnd) → ⊥)
+        → Broken ≡ rowDigitsAt text d u at
     row-fails h =
         let no : form ≡ false =
         not-So form
         (λ s.
-        let k : (((v ≡ u) × So (holds text next comma)) × So (hexadecimalAt d text (next + 1))) × So (holds text (next + 1 + d) lineEnd) = simp reflect at s in
+        let k : (((v ≡ u) × So (holds text next comma)) × So (hexadecimalAt d text (next + 1))) × So (holds text (next + 1 + d) lineEnd) =
+        simp reflect at s in
         h (k .0 .0 .0) (k .0 .0 .1) (k .0 .1) (k .1)) in
         sym (row-by ∙ if-false _ _ _ no)
 
@@ -174,10 +178,12 @@ module _ (text : List ℕ) (d u at : ℕ) where
       pub row-digits : holds text next comma ≡ true → hexadecimalAt d text (next + 1) ≡ false → Broken ≡ rowDigitsAt text d u at
       row-digits c e = row-fails (λ _ _ s _. So-not e s)
 
-      pub row-end : holds text next comma ≡ true → hexadecimalAt d text (next + 1) ≡ true → holds text (next + 1 + d) lineEnd ≡ false → Broken ≡ rowDigitsAt text d u at
+      pub row-end : holds text next comma ≡ true → hexadecimalAt d text (next + 1) ≡ true → holds text (next + 1 + d) lineEnd ≡ false
+          → Broken ≡ rowDigitsAt text d u at
       row-end c e f = row-fails (λ _ _ _ s. So-not f s)
 
-      pub row-whole : holds text next comma ≡ true → hexadecimalAt d text (next + 1) ≡ true → holds text (next + 1 + d) lineEnd ≡ true → Digits (next + 1) ≡ rowDigitsAt text d u at
+      pub row-whole : holds text next comma ≡ true → hexadecimalAt d text (next + 1) ≡ true → holds text (next + 1 + d) lineEnd ≡ true
+          → Digits (next + 1) ≡ rowDigitsAt text d u at
       row-whole c e f = let ok : So form = simp reflect (((b, c), e), f) in sym (row-by ∙ if-true _ _ _ ok)
 
 -- the same by what the fields' readers answer
