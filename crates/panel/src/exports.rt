@@ -5,6 +5,7 @@ ghost use Rattle.model.specs.Calls.{mine, edit, qualityOf, mayOf};
 ghost use Rattle.model.specs.Machine.Call.{strike, restore, eliminate, review};
 ghost use Rattle.model.specs.Conditions.{MiningConditions, StrikeConditions, RestoreConditions, EliminateConditions, ReviewConditions, QualityConditions, MayConditions};
 ghost use Rattle.quality.specs.Numbers.{weightsOf, toleranceOf};
+ghost use Rattle.text_crew.specs.Conditions.{ReadConditions};
 ghost use Rattle.text_crew.specs.Reader.{readResult, readCrew};
 ghost use Rattle.call_mine.specs.Results.{mineResult};
 ghost use Rattle.call_strike.specs.Results.{strikeResult};
@@ -89,6 +90,7 @@ pub extern "C" fn panel_may(rec: &[u64], u: u64, p: u64) -> MayAnswer
 #[no_mangle]
 pub extern "C" fn panel_read_crew(text: &[u8], rows: &mut [u64]) -> CrewRead
     ensures { λ r. ⌜ readResult r (now (rows .exit)) ≡ readCrew (now (text .entry)) (now (rows .entry)) ⌝ }
+    ensures { λ r. ⌜ ReadConditions (now (text .entry)) (now (rows .entry)) (readResult r (now (rows .exit))) ⌝ }
 {
     text_crew::read_crew(text, rows)
 }

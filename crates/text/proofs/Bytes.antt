@@ -51,7 +51,8 @@ holds-one text at b = (
 )
 
 -- one run of bytes after another
-pub holds-append : (text : List ℕ) (at : ℕ) (xs ys : List ℕ) → So (holds text at (xs ++ ys)) ↔ (So (holds text at xs) × So (holds text (at + length xs) ys))
+pub holds-append : (text : List ℕ) (at : ℕ) (xs ys : List ℕ)
+    → So (holds text at (xs ++ ys)) ↔ (So (holds text at xs) × So (holds text (at + length xs) ys))
 holds-append text at xs ys = (
   λ s.
       let k = holds-iff text at (xs ++ ys) .0 s in
@@ -94,7 +95,8 @@ module _ (text : List ℕ) (at : ℕ) (bytes : List ℕ) (i : ℕ) where
   pub holds-differs : i < length bytes → (getD text (at + i) 0 ≡ getD bytes i 0 → ⊥) → holds text at bytes ≡ false
   holds-differs l h = not-So (holds text at bytes) (λ s. h (holds-at text at bytes s i l))
 
-  pub holds-through : at + length bytes ≤ length text → length bytes ≤ i → So (all i (λ k. eqb (getD text (at + k) 0) (getD bytes k 0))) → So (holds text at bytes)
+  pub holds-through : at + length bytes ≤ length text → length bytes ≤ i → So (all i (λ k. eqb (getD text (at + k) 0) (getD bytes k 0)))
+      → So (holds text at bytes)
   unfolding holds
   holds-through b h s =
       and-iff (leb (at + length bytes) (length text)) (all (length bytes) (λ k. eqb (getD text (at + k) 0) (getD bytes k 0))) .1

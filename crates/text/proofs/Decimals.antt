@@ -115,7 +115,8 @@ pub put-short : (l : List ℕ) (at v b : ℕ) → v < 10 → b ≡ digitByte v �
 unfolding putAt
 put-short l at v b h e = (ap (λ (x : ℕ). at + x) (sym (length-short v h)), rw (decimal-short v h, e) refl)
 
-pub put-long : (l l' : List ℕ) (at v r b : ℕ) → 10 ≤ v → v < 2 ^ 64 → r ≡ at + length (decimal (v / 10)) → l' ≡ putAt l at (decimal (v / 10)) → b ≡ digitByte (v % 10)
+pub put-long : (l l' : List ℕ) (at v r b : ℕ) → 10 ≤ v → v < 2 ^ 64 → r ≡ at + length (decimal (v / 10)) → l' ≡ putAt l at (decimal (v / 10))
+    → b ≡ digitByte (v % 10)
     → (r + 1 ≡ at + length (decimal v)) × (set l' r b ≡ putAt l at (decimal v))
 put-long l l' at v r b h w er el eb =
     let n : length (decimal v) ≡ length (decimal (v / 10)) + 1 = length-long v h w in

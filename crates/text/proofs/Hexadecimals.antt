@@ -97,14 +97,16 @@ hex-room i d text at l h s =
     omega arith
 
 -- the digits after the first a, and the first a above them
-pub hex-split : (a k : ℕ) (text : List ℕ) (at : ℕ) → hexadecimalValue (a + k) text at ≡ hexadecimalValue a text at * 16 ^ k + hexadecimalValue k text (at + a)
+pub hex-split : (a k : ℕ) (text : List ℕ) (at : ℕ)
+    → hexadecimalValue (a + k) text at ≡ hexadecimalValue a text at * 16 ^ k + hexadecimalValue k text (at + a)
 unfolding hexadecimalValue
 hex-split a zero text at =
     rw (add-zero a)
     (let e : hexadecimalValue a text at * 1 + 0 ≡ hexadecimalValue a text at = omega arith in sym e)
 hex-split a (suc k) text at =
     let e : hexadecimalValue (a + k) text at ≡ hexadecimalValue a text at * 16 ^ k + hexadecimalValue k text (at + a) = hex-split a k text at in
-    let m : hexadecimalValue a text at * (16 ^ k * 16) ≡ hexadecimalValue a text at * 16 ^ k * 16 = sym (mul-assoc (hexadecimalValue a text at) (16 ^ k) 16) in
+    let m : hexadecimalValue a text at * (16 ^ k * 16) ≡ hexadecimalValue a text at * 16 ^ k * 16 =
+    sym (mul-assoc (hexadecimalValue a text at) (16 ^ k) 16) in
     rw (add-suc a k)
     (rw (pow-suc 16 k, add-assoc at a k, e, m) (omega arith))
 

@@ -23,7 +23,8 @@ use Rattle.text.proofs.Hexadecimals.{sixteen, hex-iff, hex-digit, hex-e
 -- ---- one digit
 
 -- the byte of a digit there is that digit there
-pub held-digit : (text : List ℕ) (at : ℕ) (bytes : List ℕ) (i d : ℕ) → So (holds text at bytes) → i < length bytes → getD bytes i 0 ≡ digitByte d → d < 16 → d ≡ digitAt text (at + i)
+pub held-digit : (text : List ℕ) (at : ℕ) (bytes : List ℕ) (i d : ℕ) → So (holds text at bytes) → i < length bytes → getD bytes i 0 ≡ digitByte d
+    → d < 16 → d ≡ digitAt text (at + i)
 unfolding digitAt
 held-digit text at bytes i d s l e h = sym (ap digitOf (holds-at text at bytes s i l ∙ e) ∙ digit-back d h)
 
@@ -115,9 +116,12 @@ decimal-reads text at v h s k =
     rw (x, w) (sym (decimal-two text at (rw (add-zero at) at a0) ha n b0 hb refl (rw x at k))))
     (λ a b c n ha hb hc w e.
     let x : length (decimal v) ≡ 3 = ap length e in
-    let a0 : a ≡ digitAt text (at + 0) = held-digit text at (digitByte a ∷ digitByte b ∷ digitByte c ∷ []) 0 a (rw e at s) (omega arith) refl (omega arith) in
-    let b0 : b ≡ digitAt text (at + 1) = held-digit text at (digitByte a ∷ digitByte b ∷ digitByte c ∷ []) 1 b (rw e at s) (omega arith) refl (omega arith) in
-    let c0 : c ≡ digitAt text (at + 2) = held-digit text at (digitByte a ∷ digitByte b ∷ digitByte c ∷ []) 2 c (rw e at s) (omega arith) refl (omega arith) in
+    let a0 : a ≡ digitAt text (at + 0) =
+    held-digit text at (digitByte a ∷ digitByte b ∷ digitByte c ∷ []) 0 a (rw e at s) (omega arith) refl (omega arith) in
+    let b0 : b ≡ digitAt text (at + 1) =
+    held-digit text at (digitByte a ∷ digitByte b ∷ digitByte c ∷ []) 1 b (rw e at s) (omega arith) refl (omega arith) in
+    let c0 : c ≡ digitAt text (at + 2) =
+    held-digit text at (digitByte a ∷ digitByte b ∷ digitByte c ∷ []) 2 c (rw e at s) (omega arith) refl (omega arith) in
     rw (x, w) (sym (decimal-three text at (rw (add-zero at) at a0) ha n b0 hb c0 hc refl (rw x at k))))
 
 -- what is read is what is written
@@ -130,7 +134,8 @@ module _ (text : List ℕ) (at v next : ℕ) (e : decimalAt text at ≡ Number v
   nothing-read : Nothing ≡ decimalAt text at → DecimalRead text at v next
   nothing-read k = let z : _≡_ {A = ℕ} 0 1 = cc in absurd (omega arith)
 
-  bytes-read : (w end : ℕ) (bytes : List ℕ) → Number w end ≡ decimalAt text at → w < 1000 → decimal w ≡ bytes → So (holds text at bytes) → end ≡ at + length bytes → DecimalRead text at v next
+  bytes-read : (w end : ℕ) (bytes : List ℕ) → Number w end ≡ decimalAt text at → w < 1000 → decimal w ≡ bytes → So (holds text at bytes)
+      → end ≡ at + length bytes → DecimalRead text at v next
   bytes-read w end bytes k h d s l =
       let p : w ≡ v = cc in
       let q : end ≡ next = cc in
@@ -166,7 +171,8 @@ module _ (text : List ℕ) (at v next : ℕ) (e : decimalAt text at ≡ Number v
       (decimal-short (digitAt text at) ha) (digit-held text at refl (omega arith)) refl))
       (λ ha. nothing-read (decimal-none text at refl ha))
     where
-      two-held : digitAt text at < 10 → digitAt text (at + 1) < 10 → So (holds text at (digitByte (digitAt text at) ∷ digitByte (digitAt text (at + 1)) ∷ []))
+      two-held : digitAt text at < 10 → digitAt text (at + 1) < 10
+          → So (holds text at (digitByte (digitAt text at) ∷ digitByte (digitAt text (at + 1)) ∷ []))
       two-held ha hb =
           holds-append text at (digitByte (digitAt text at) ∷ []) (digitByte (digitAt text (at + 1)) ∷ []) .1
           (digit-held text at refl (omega arith), digit-held text (at + 1) refl (omega arith))
@@ -192,7 +198,8 @@ module _ (d : ℕ) (text : List ℕ) (at s : ℕ) (b : s < 16 ^ d) (h : So (hold
   hex-so-far (suc k) l =
       let e : d - k ≡ suc (d - suc k) = omega arith in
       let f : d - 1 - k ≡ d - suc k = omega arith in
-      let p : s / 16 ^ (d - k) ≡ s / 16 ^ (d - suc k) / 16 = ap (λ (x : ℕ). s / 16 ^ x) e ∙ ap (λ (x : ℕ). s / x) (pow-suc 16 (d - suc k)) ∙ sym (div-div-eq-div-mul s (16 ^ (d - suc k)) 16) in
+      let p : s / 16 ^ (d - k) ≡ s / 16 ^ (d - suc k) / 16 =
+      ap (λ (x : ℕ). s / 16 ^ x) e ∙ ap (λ (x : ℕ). s / x) (pow-suc 16 (d - suc k)) ∙ sym (div-div-eq-div-mul s (16 ^ (d - suc k)) 16) in
       rw (hex-so-far k (omega arith), hex-held k (omega arith), p, f) (omega arith)
 
   -- what was written is read back

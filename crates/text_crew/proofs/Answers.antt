@@ -27,7 +27,7 @@ use Rattle.text_crew.specs.declared.header.Header.the-variants.{Crew, Ma
 use Rattle.text_crew.specs.declared.row.Row.{Row}
 use Rattle.text_crew.specs.declared.row.Row.the-variants.{Digits, Broken}
 use Rattle.text_crew.specs.declared.rows.RowsEnd.the-variants.{End, BadForm, BadBit}
-use Rattle.text_crew.specs.Reader.{Read, rowsRead, badForm, badBit, rowDigitsAt, withRow, nextRow, rowsTo, laid, rowsEnd, RowsLaid, ReadReply, readRefused, readResult, headerAt, afterRows, afterHeader, readCrew}
+use Rattle.text_crew.specs.Reader.{longestText, bufferLength, Read, rowsRead, badForm, badBit, rowDigitsAt, withRow, nextRow, rowsTo, laid, rowsEnd, RowsLaid, ReadReply, readRefused, readResult, headerAt, afterRows, afterHeader, readCrew}
 use Rattle.text_crew.proofs.Lines.{said-no, said-yes}
 use Rattle.text_crew.proofs.Laid.{laid-more}
 
@@ -83,7 +83,8 @@ module _ (text : List ℕ) (m start u at : ℕ) (words : List ℕ) (f : Filling 
   unfolding rowsTo nextRow
   step o e = rw (f .read, e) refl
 
-  pub fill-more : (digits s : ℕ) (after : List ℕ) → u < 128 → rowDigitsAt text (digitsFor m) u at ≡ Digits digits → s ≡ hexadecimalValue (digitsFor m) text digits → So (ltb s (2 ^ m))
+  pub fill-more : (digits s : ℕ) (after : List ℕ) → u < 128 → rowDigitsAt text (digitsFor m) u at ≡ Digits digits
+      → s ≡ hexadecimalValue (digitsFor m) text digits → So (ltb s (2 ^ m))
       → after ≡ putAt words (4 * u) (wordsOf 4 s)
       → Filling text m start (u + 1) (digits + digitsFor m + 1) after
   unfolding withRow
@@ -103,7 +104,8 @@ module _ (text : List ℕ) (m start u at : ℕ) (words : List ℕ) (f : Filling 
       let r : rowsTo text m start n ≡ badForm = rw k at (form-stays text m start u (step Broken e) (n - suc u)) in
       rw r (refl, tt)
 
-  pub fill-bit : (n digits s : ℕ) (after : List ℕ) → u < n → rowDigitsAt text (digitsFor m) u at ≡ Digits digits → s ≡ hexadecimalValue (digitsFor m) text digits → ltb s (2 ^ m) ≡ false
+  pub fill-bit : (n digits s : ℕ) (after : List ℕ) → u < n → rowDigitsAt text (digitsFor m) u at ≡ Digits digits
+      → s ≡ hexadecimalValue (digitsFor m) text digits → ltb s (2 ^ m) ≡ false
       → (BadBit ≡ rowsEnd (rowsTo text m start n)) × RowsLaid (rowsTo text m start n) after
   unfolding withRow rowsEnd RowsLaid
   fill-bit n digits s after h e es b =
@@ -130,7 +132,7 @@ module _ (text buffer : List ℕ) (n m : ℕ) where
       sym
       (if-false (eqb end (length text)) (record { code = 0; n = n; m = m; words = laid rows }) (readRefused 10 buffer)
       (ne-eqb end (length text) (λ (q : end ≡ length text). h (p ∙ q))))
-  after-more badForm at e h = refl
+  after-more badForm at e h = let z : _≡_ {A = ℕ} 0 1 = cc in absurd (omega arith)
   after-more badBit at e h = let z : _≡_ {A = ℕ} 0 1 = cc in absurd (omega arith)
 
   pub after-all : (o : Read) (at : ℕ) (words : List ℕ) → End at ≡ rowsEnd o → RowsLaid o words → at ≡ length text
@@ -158,21 +160,21 @@ module _ (text buffer : List ℕ) (n m : ℕ) where
   after-bit badBit e = refl
 
 module _ (text buffer : List ℕ) where
-  pub wrong-buffer : length buffer ≢ 512 → readRefused 3 buffer ≡ readCrew text buffer
+  pub wrong-buffer : length buffer ≢ bufferLength → readRefused 3 buffer ≡ readCrew text buffer
   unfolding readCrew
-  wrong-buffer h = sym (if-stops _ _ _ (ne-eqb (length buffer) 512 h))
+  wrong-buffer h = sym (if-stops _ _ _ (ne-eqb (length buffer) bufferLength h))
 
-  module _ (b : length buffer ≡ 512) where
-    pub too-long : 16384 < length text → readRefused 10 buffer ≡ readCrew text buffer
+  module _ (b : length buffer ≡ bufferLength) where
+    pub too-long : longestText < length text → readRefused 10 buffer ≡ readCrew text buffer
     unfolding readCrew
-    too-long h = sym (if-passes _ _ _ (eq-eqb (length buffer) 512 b) ∙ if-stops _ _ _ (lt-leb (length text) 16384 h))
+    too-long h = sym (if-passes _ _ _ (eq-eqb (length buffer) bufferLength b) ∙ if-stops _ _ _ (lt-leb (length text) longestText h))
 
-    module _ (l : length text ≤ 16384) where
+    module _ (l : length text ≤ longestText) where
       by-header : {h : Header} → headerAt text ≡ h → afterHeader text buffer h ≡ readCrew text buffer
       unfolding readCrew
       by-header e =
           sym
-          (if-passes _ _ _ (eq-eqb (length buffer) 512 b) ∙ if-passes _ _ _ (le-leb (length text) 16384 l) ∙ ap (afterHeader text buffer) e)
+          (if-passes _ _ _ (eq-eqb (length buffer) bufferLength b) ∙ if-passes _ _ _ (le-leb (length text) longestText l) ∙ ap (afterHeader text buffer) e)
 
       pub by-crew : {n m at : ℕ} → headerAt text ≡ Crew n m at → afterRows text buffer n m (rowsTo text m at n) ≡ readCrew text buffer
       unfolding afterHeader

@@ -1,8 +1,9 @@
 -- What the form of a line says: the fields, one after another.
 -- Assumes nothing.
 use mathlib.Core.Path.{_≡_, refl, sym, _∙_, ap}
-use mathlib.Core.Bool.{So}
+use mathlib.Core.Bool.{false, So}
 use mathlib.Core.List.{List}
+use mathlib.Core.Logic.{_≢_}
 use Prim.Native.Nat.{ℕ, _+_, _≤_}
 use native.Mathlib.Omega.{arith}
 use lib.Dec.{eqb}
@@ -17,6 +18,7 @@ use Rattle.text.specs.Decimal.{decimalAt}
 use Rattle.text.specs.Hexadecimal.{hexadecimalAt}
 use Rattle.text.proofs.Bytes.{holds-end}
 use Rattle.text_crew.specs.Format.{crewWord}
+use Rattle.text_crew.specs.declared.header.Header.{Header}
 use Rattle.text_crew.specs.declared.header.Header.the-variants.{Crew, Malformed, Beyond}
 use Rattle.text_crew.specs.declared.row.Row.the-variants.{Digits, Broken}
 use Rattle.text_crew.specs.Reader.{limited, headerEnd, headerRest, headerAt, rowRest, rowDigitsAt}
@@ -32,52 +34,62 @@ pub record HeaderForm (text : List ℕ) (n m at : ℕ) : Type 0 where
   pub permissions : decimalAt text (next + 1) ≡ Number m end
   pub end-there : So (holds text end lineEnd)
   pub place : at ≡ end + 1
-  pub limits : So (withinLimits n m)
 
-module _ (text : List ℕ) (n m at : ℕ) (w : So (holds text 0 crewWord)) where
-  header-limits : (v next k end : ℕ) → decimalAt text 5 ≡ Number v next → So (holds text next comma) → decimalAt text (next + 1) ≡ Number k end → So (holds text end lineEnd)
-      → limited v k (end + 1) ≡ Crew n m at → HeaderForm text n m at
-  unfolding limited
-  header-limits v next k end a b c d e =
-      if-cases (withinLimits v k) (Crew v k (end + 1)) Beyond (Crew n m at) e
-      (λ t. λ (f : Crew v k (end + 1) ≡ Crew n m at).
-      let p : v ≡ n = cc in
-      let q : k ≡ m = cc in
-      let r : end + 1 ≡ at = cc in
-      record {
-        next = next;
-        end = end;
-        word-there = w;
-        users = a ∙ ap (λ (x : ℕ). Number x next) p;
-        comma-there = b;
-        permissions = c ∙ ap (λ (x : ℕ). Number x end) q;
-        end-there = d;
-        place = sym r;
-        limits = rw (p, q) at t;
-      })
-      (λ t. λ (f : Beyond ≡ Crew n m at). let z : _≡_ {A = ℕ} 0 1 = cc in absurd (omega arith))
+-- a header that has its form, and what its limits made of it
+pub record HeaderSeen (text : List ℕ) (h : Header) : Type 0 where
+  pub n : ℕ
+  pub m : ℕ
+  pub at : ℕ
+  pub form : HeaderForm text n m at
+  pub limits : limited n m at ≡ h
 
-  header-second : (v next : ℕ) → decimalAt text 5 ≡ Number v next → So (holds text next comma) → (o : Decimal) → decimalAt text (next + 1) ≡ o → headerEnd text v o ≡ Crew n m at → HeaderForm text n m at
+module _ (text : List ℕ) (h : Header) (d : h ≢ Malformed) where
+  header-second : (n next : ℕ) → So (holds text 0 crewWord) → decimalAt text 5 ≡ Number n next → So (holds text next comma)
+      → (o : Decimal) → decimalAt text (next + 1) ≡ o → headerEnd text n o ≡ h → HeaderSeen text h
   unfolding headerEnd
-  header-second v next a b (Number k end) c e =
-      if-cases (holds text end lineEnd) (limited v k (end + 1)) Malformed (Crew n m at) e (header-limits v next k end a b c)
-      (λ t. λ (f : Malformed ≡ Crew n m at). let z : _≡_ {A = ℕ} 0 1 = cc in absurd (omega arith))
-  header-second v next a b Nothing c e = let z : _≡_ {A = ℕ} 0 1 = cc in absurd (omega arith)
+  header-second n next w a b (Number m end) c e =
+      if-cases (holds text end lineEnd) (limited n m (end + 1)) Malformed h e
+      (λ l f.
+      let form : HeaderForm text n m (end + 1) =
+      record { next = next; end = end; word-there = w; users = a; comma-there = b; permissions = c; end-there = l; place = refl } in
+      record { n = n; m = m; at = end + 1; form = form; limits = f })
+      (λ _ f. absurd (d (sym f)))
+  header-second n next w a b Nothing c e = absurd (d (sym e))
 
-  header-first : (o : Decimal) → decimalAt text 5 ≡ o → headerRest text o ≡ Crew n m at → HeaderForm text n m at
+  header-first : So (holds text 0 crewWord) → (o : Decimal) → decimalAt text 5 ≡ o → headerRest text o ≡ h → HeaderSeen text h
   unfolding headerRest
-  header-first (Number v next) a e =
-      if-cases (holds text next comma) (headerEnd text v (decimalAt text (next + 1))) Malformed (Crew n m at) e
-      (λ b. header-second v next a b (decimalAt text (next + 1)) refl)
-      (λ t. λ (f : Malformed ≡ Crew n m at). let z : _≡_ {A = ℕ} 0 1 = cc in absurd (omega arith))
-  header-first Nothing a e = let z : _≡_ {A = ℕ} 0 1 = cc in absurd (omega arith)
+  header-first w (Number n next) a e =
+      if-cases (holds text next comma) (headerEnd text n (decimalAt text (next + 1))) Malformed h e
+      (λ b. header-second n next w a b (decimalAt text (next + 1)) refl)
+      (λ _ f. absurd (d (sym f)))
+  header-first w Nothing a e = absurd (d (sym e))
 
-pub header-form : (text : List ℕ) (n m at : ℕ) → headerAt text ≡ Crew n m at → HeaderForm text n m at
-unfolding headerAt
+  pub header-seen : headerAt text ≡ h → HeaderSeen text h
+  unfolding headerAt
+  header-seen e =
+      if-cases (holds text 0 crewWord) (headerRest text (decimalAt text 5)) Malformed h e
+      (λ w. header-first w (decimalAt text 5) refl)
+      (λ _ f. absurd (d (sym f)))
+
+pub header-form : (text : List ℕ) (n m at : ℕ) → headerAt text ≡ Crew n m at → HeaderForm text n m at × So (withinLimits n m)
+unfolding limited
 header-form text n m at e =
-    if-cases (holds text 0 crewWord) (headerRest text (decimalAt text 5)) Malformed (Crew n m at) e
-    (λ w. header-first text n m at w (decimalAt text 5) refl)
-    (λ t. λ (f : Malformed ≡ Crew n m at). let z : _≡_ {A = ℕ} 0 1 = cc in absurd (omega arith))
+    let s = header-seen text (Crew n m at) (λ f. let z : _≡_ {A = ℕ} 0 1 = cc in omega arith) e in
+    if-cases (withinLimits (s .n) (s .m)) (Crew (s .n) (s .m) (s .at)) Beyond (Crew n m at) (s .limits)
+    (λ t. λ (f : Crew (s .n) (s .m) (s .at) ≡ Crew n m at).
+    let p : s .n ≡ n = cc in
+    let q : s .m ≡ m = cc in
+    let r : s .at ≡ at = cc in
+    (rw (p, q, r) at (s .form), rw (p, q) at t))
+    (λ t. λ (f : Beyond ≡ Crew n m at). let z : _≡_ {A = ℕ} 0 1 = cc in absurd (omega arith))
+
+pub header-beyond : (text : List ℕ) → headerAt text ≡ Beyond → (s : HeaderSeen text Beyond) × (withinLimits (s .n) (s .m) ≡ false)
+unfolding limited
+header-beyond text e =
+    let s = header-seen text Beyond (λ f. let z : _≡_ {A = ℕ} 0 1 = cc in omega arith) e in
+    if-cases (withinLimits (s .n) (s .m)) (Crew (s .n) (s .m) (s .at)) Beyond Beyond (s .limits)
+    (λ t. λ (f : Crew (s .n) (s .m) (s .at) ≡ Beyond). let z : _≡_ {A = ℕ} 0 1 = cc in absurd (omega arith))
+    (λ t _. (s, t))
 
 -- ---- a row
 
@@ -93,7 +105,8 @@ row-none : (text : List ℕ) (d u digits : ℕ) → rowRest text d u Nothing ≡
 unfolding rowRest
 row-none text d u digits e = let z : _≡_ {A = ℕ} 0 1 = cc in omega arith
 
-row-some : (text : List ℕ) (d u at digits v next : ℕ) → decimalAt text at ≡ Number v next → rowRest text d u (Number v next) ≡ Digits digits → RowForm text d u at digits
+row-some : (text : List ℕ) (d u at digits v next : ℕ) → decimalAt text at ≡ Number v next → rowRest text d u (Number v next) ≡ Digits digits
+    → RowForm text d u at digits
 unfolding rowRest
 row-some text d u at digits v next a e =
     if-cases (eqb v u and holds text next comma and hexadecimalAt d text (next + 1) and holds text (next + 1 + d) lineEnd) (Digits (next + 1)) Broken (Digits digits) e

@@ -27,7 +27,8 @@ pub getD-laid : (rows : List ℕ) (i : ℕ) → i < 512 → getD (laid rows) i 0
 unfolding laid regionWord
 getD-laid rows i h = getD-tabulate 512 (regionWord 4 (λ u. getD rows u 0)) i h
 
-pub laid-is : (rows words : List ℕ) → length words ≡ 512 → ((i : ℕ) → i < 512 → getD words i 0 ≡ word (getD rows (i / 4) 0) (i % 4)) → words ≡ laid rows
+pub laid-is : (rows words : List ℕ) → length words ≡ 512 → ((i : ℕ) → i < 512 → getD words i 0 ≡ word (getD rows (i / 4) 0) (i % 4))
+    → words ≡ laid rows
 unfolding laid regionWord
 laid-is rows words e h = tabulate-is 512 (regionWord 4 (λ u. getD rows u 0)) words e h
 

@@ -3,3 +3,5 @@ pub mod Forms
 pub mod Laid
 pub mod Answers
 pub mod Canonical
+pub mod Conditions
+pub mod Sample

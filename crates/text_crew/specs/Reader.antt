@@ -95,7 +95,7 @@ pub record ReadReply : Type 0 where
   pub m : ℕ
   pub words : List ℕ
 
--- "Every readRefused returns zeros beside its number and leaves all buffers as lent."
+-- "Every refusal returns zeros beside its number and leaves all buffers as lent."
 unfoldable pub readRefused : ℕ → List ℕ → ReadReply
 readRefused k buffer = record { code = k; n = 0; m = 0; words = buffer }
 

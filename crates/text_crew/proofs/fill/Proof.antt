@@ -30,10 +30,15 @@ same-length c = search needs
 
 returns : tie.Need-returns
 unfolding readResult
-returns c = rw (c .before .before .copy .ensures ∙ putAt-whole _ _ (search needs)) (after-all _ _ _ _ _ _ _ (sym (c .before .before .before .before .before .before .before .end .given .1) ∙ c .before .before .before .before .before .before .before .before .before .before .read-rows .ensures .0) (c .before .before .before .before .before .before .before .before .before .before .read-rows .ensures .1) (c .before .before .before .before .before .if1 .taken))
+returns c =
+    let e = c .before .before in
+    let t = e .before .before .before in
+    let r = t .before .before in
+    let q = r .before .before .before .read-rows .ensures in
+    rw (e .copy .ensures ∙ putAt-whole _ _ (search needs)) (after-all _ _ _ _ _ _ _ (sym (r .end .given .1) ∙ q .0) (q .1) (t .if1 .taken))
 
-refused-requires : tie.Need-refused-requires
-refused-requires c κs = search needs
+refused-requires-1 : tie.Need-refused-requires
+refused-requires-1 c κs = search needs
 
 enum-told : tie.Need-enum-told
 enum-told c = search needs
@@ -48,13 +53,20 @@ refused-requires-3 : tie.Need-refused-requires-3
 refused-requires-3 c κs = search needs
 
 returns-2 : tie.Need-returns-2
-returns-2 c = refused-is _ _ _ (c .refused .ensures) ∙ after-more _ _ _ _ _ _ (sym (c .before .before .before .end .given .1) ∙ c .before .before .before .before .before .before .read-rows .ensures .0) (c .before .if1 .left)
+returns-2 c =
+    let r = c .before .before .before in
+    let e = sym (r .end .given .1) ∙ r .before .before .before .read-rows .ensures .0 in
+    refused-is _ _ _ (c .refused .ensures) ∙ after-more _ _ _ _ _ _ e (c .before .if1 .left)
 
 returns-3 : tie.Need-returns-3
-returns-3 c = refused-is _ _ _ (c .refused2 .ensures) ∙ after-form _ _ _ _ _ (sym (c .before .enum-told .given .1) ∙ c .before .before .before .before .read-rows .ensures .0)
+returns-3 c =
+    let r = c .before in
+    refused-is _ _ _ (c .refused2 .ensures) ∙ after-form _ _ _ _ _ (sym (r .enum-told .given .1) ∙ r .before .before .before .read-rows .ensures .0)
 
 returns-4 : tie.Need-returns-4
-returns-4 c = refused-is _ _ _ (c .refused3 .ensures) ∙ after-bit _ _ _ _ _ (sym (c .before .enum-told2 .given .1) ∙ c .before .before .before .before .read-rows .ensures .0)
+returns-4 c =
+    let r = c .before in
+    refused-is _ _ _ (c .refused3 .ensures) ∙ after-bit _ _ _ _ _ (sym (r .enum-told2 .given .1) ∙ r .before .before .before .read-rows .ensures .0)
 
 pub fill-spec : {M : Type 1} → statement M
 fill-spec =
@@ -67,7 +79,7 @@ fill-spec =
     copy-requires
     same-length
     returns
-    refused-requires
+    refused-requires-1
     enum-told
     refused-requires-2
     enum-told-2

@@ -3,11 +3,19 @@
 use Rattle.text_crew.proofs.Answers.{refused-is, wrong-buffer, too-long, by-crew, by-malformed, by-beyond}
 use Rattle.model.proofs.Record.{withinLimits-iff}
 use Rattle.text_crew.proofs.Forms.{header-form}
-use mathlib.Core.Path.{sym, _∙_}
+use mathlib.Core.Path.{_≡_, sym, _∙_}
+use Rattle.text_crew.specs.declared.header.Header.the-variants.{Crew}
+use Rattle.text_crew.specs.Reader.{headerAt}
 use borrow.Author.Needs.{needs}
 use native.Mathlib.Omega.{arith}
 use Rattle.text_crew.proofs.read_crew.Statement.{statement}
 use Rattle.text_crew.proofs.read_crew.Tie as tie
+
+-- the header's fields
+header : (c : tie.After-n)
+    → let v = c .n .given .0 in
+    headerAt (c .before .before .before .before .before .before .before .args .text .now) ≡ Crew (v .0) (v .1 .0) (v .1 .1 .0)
+header c = sym (c .before .before .read-header .ensures) ∙ c .n .given .1
 
 refused-requires : tie.Need-refused-requires
 refused-requires c κs = search needs
@@ -19,7 +27,7 @@ refused-requires-2 : tie.Need-refused-requires-2
 refused-requires-2 c κs = search needs
 
 returns-2 : tie.Need-returns-2
-returns-2 c = refused-is _ _ _ (c .refused2 .ensures) ∙ too-long _ _ (c .before .before .if1 .left) (c .before .if2 .taken)
+returns-2 c = refused-is _ _ _ (c .refused2 .ensures) ∙ too-long _ _ (omega arith) (omega arith)
 
 read-header-requires : tie.Need-read-header-requires
 read-header-requires c κs = search needs
@@ -28,7 +36,7 @@ enum-known-n : tie.Need-enum-known-n
 enum-known-n c = search needs
 
 fill-requires : tie.Need-fill-requires
-fill-requires c κs = let k = withinLimits-iff _ _ .0 (header-form _ _ _ _ (sym (c .before .before .before .before .read-header .ensures) ∙ c .before .before .n .given .1) .limits) in (k .1, k .3, omega arith)
+fill-requires c κs = let k = withinLimits-iff _ _ .0 (header-form _ _ _ _ (header (c .before .before)) .1) in (k .1, k .3, omega arith)
 
 enum-told : tie.Need-enum-told
 enum-told c = search needs
@@ -46,13 +54,19 @@ same-length : tie.Need-same-length
 same-length c = search needs
 
 returns-3 : tie.Need-returns-3
-returns-3 c = c .before .before .fill .ensures ∙ by-crew _ _ (c .before .before .before .before .before .before .before .before .before .if1 .left) (c .before .before .before .before .before .before .before .before .if2 .left) (sym (c .before .before .before .before .before .before .before .read-header .ensures) ∙ c .before .before .before .before .before .n .given .1)
+returns-3 c = let f = c .before .before in f .fill .ensures ∙ by-crew _ _ (omega arith) (omega arith) (header (f .before .before .before))
 
 returns-4 : tie.Need-returns-4
-returns-4 c = refused-is _ _ _ (c .refused3 .ensures) ∙ by-malformed _ _ (c .before .before .before .before .before .if1 .left) (c .before .before .before .before .if2 .left) (sym (c .before .before .before .read-header .ensures) ∙ c .before .enum-told .given .1)
+returns-4 c =
+    let e = c .before in
+    refused-is _ _ _ (c .refused3 .ensures)
+    ∙ by-malformed _ _ (omega arith) (omega arith) (sym (e .before .before .read-header .ensures) ∙ e .enum-told .given .1)
 
 returns-5 : tie.Need-returns-5
-returns-5 c = refused-is _ _ _ (c .refused4 .ensures) ∙ by-beyond _ _ (c .before .before .before .before .before .if1 .left) (c .before .before .before .before .if2 .left) (sym (c .before .before .before .read-header .ensures) ∙ c .before .enum-told2 .given .1)
+returns-5 c =
+    let e = c .before in
+    refused-is _ _ _ (c .refused4 .ensures)
+    ∙ by-beyond _ _ (omega arith) (omega arith) (sym (e .before .before .read-header .ensures) ∙ e .enum-told2 .given .1)
 
 pub read-crew-spec : {M : Type 1} → statement M
 read-crew-spec =

@@ -110,7 +110,9 @@ put-decimal-returns-2 : (t : ℕ) → put-decimal-lts.Need-returns-2 (
   put-decimal-below t,
   put-decimal.Post,
 ) (put-decimal-at t) put-decimal.Post
-put-decimal-returns-2 t c = put-long _ _ _ _ _ _ (c .before .before .before .before .before .if1 .left) (omega arith) (c .before .before .before .put-decimal .ensures .0) (c .before .before .before .put-decimal .ensures .1) (c .digit-byte2 .ensures)
+put-decimal-returns-2 t c =
+    let p = c .before .before .before in
+    put-long _ _ _ _ _ _ (p .before .before .if1 .left) (omega arith) (p .put-decimal .ensures .0) (p .put-decimal .ensures .1) (c .digit-byte2 .ensures)
 
 pub +put-decimal-spec : {M : Type 1} → statement M
 +put-decimal-spec = close μ-put-decimal λ t. put-decimal-lts.spec (

@@ -6,29 +6,42 @@ use native.Mathlib.Omega.{arith}
 use Rattle.text.proofs.decimal.read_decimal.Statement.{statement}
 use Rattle.text.proofs.decimal.read_decimal.Tie as tie
 
+-- from each digit back to the one before it
+
+abbrev first : tie.After-digit-at2 → tie.After-digit-at
+first c = c .before .before
+
+abbrev second : tie.After-digit-at3 → tie.After-digit-at2
+second c = c .before .before .before
+
+abbrev third : tie.After-digit-at4 → tie.After-digit-at3
+third c = c .before .before
+
+-- ---- the needs
+
 digit-at-requires : tie.Need-digit-at-requires
 digit-at-requires c κs = search needs
 
 returns : tie.Need-returns
-returns c = decimal-none _ _ (c .before .digit-at .ensures .0) (c .if1 .taken)
+returns c = decimal-none _ _ (c .before .digit-at .ensures .0) (omega arith)
 
 add-digit-at : tie.Need-add-digit-at
-add-digit-at c = omega (arith, decimal-inside _ _ (c .before .digit-at .ensures .0) (c .if1 .left))
+add-digit-at c = omega (arith, decimal-inside _ _ (c .before .digit-at .ensures .0) (omega arith))
 
 digit-at-requires-2 : tie.Need-digit-at-requires-2
 digit-at-requires-2 c κs = search needs
 
 add-t8 : tie.Need-add-t8
-add-t8 c = omega (arith, decimal-inside _ _ (c .before .before .before .digit-at .ensures .0) (c .before .before .if1 .left))
+add-t8 c = omega (arith, decimal-inside _ _ (first (c .before) .digit-at .ensures .0) (omega arith))
 
 returns-2 : tie.Need-returns-2
-returns-2 c = decimal-one _ _ (c .before .before .before .digit-at .ensures .0) (c .before .before .if1 .left) (c .before .digit-at2 .ensures .0) (c .if2 .taken)
+returns-2 c = let b = c .before in decimal-one _ _ (first b .digit-at .ensures .0) (omega arith) (b .digit-at2 .ensures .0) (omega arith)
 
 returns-3 : tie.Need-returns-3
-returns-3 c = decimal-leading _ _ (c .before .before .before .before .digit-at .ensures .0) (c .if3 .taken) (c .before .before .digit-at2 .ensures .0) (c .before .if2 .left)
+returns-3 c = let b = c .before .before in decimal-leading _ _ (first b .digit-at .ensures .0) (omega arith) (b .digit-at2 .ensures .0) (omega arith)
 
 add-digit-at-2 : tie.Need-add-digit-at-2
-add-digit-at-2 c = omega (arith, decimal-inside _ _ (c .before .before .digit-at2 .ensures .0) (c .before .if2 .left))
+add-digit-at-2 c = omega (arith, decimal-inside _ _ (c .before .before .digit-at2 .ensures .0) (omega arith))
 
 digit-at-requires-3 : tie.Need-digit-at-requires-3
 digit-at-requires-3 c κs = search needs
@@ -40,13 +53,17 @@ add-t10 : tie.Need-add-t10
 add-t10 c = search needs
 
 add-t11 : tie.Need-add-t11
-add-t11 c = omega (arith, decimal-inside _ _ (c .before .before .before .before .digit-at2 .ensures .0) (c .before .before .before .if2 .left))
+add-t11 c = omega (arith, decimal-inside _ _ (second (c .before) .digit-at2 .ensures .0) (omega arith))
 
 returns-4 : tie.Need-returns-4
-returns-4 c = decimal-two _ _ (c .before .before .before .before .before .before .digit-at .ensures .0) (c .before .before .before .before .before .if1 .left) (c .before .before .if3 .left) (c .before .before .before .before .digit-at2 .ensures .0) (c .before .before .before .if2 .left) (c .before .digit-at3 .ensures .0) (c .if4 .taken)
+returns-4 c =
+    let d = c .before in
+    let b = second d in
+    decimal-two _ _ (first b .digit-at .ensures .0) (omega arith) (d .before .if3 .left) (b .digit-at2 .ensures .0) (omega arith)
+    (d .digit-at3 .ensures .0) (omega arith)
 
 add-digit-at-3 : tie.Need-add-digit-at-3
-add-digit-at-3 c = omega (arith, decimal-inside _ _ (c .before .digit-at3 .ensures .0) (c .if4 .left))
+add-digit-at-3 c = omega (arith, decimal-inside _ _ (c .before .digit-at3 .ensures .0) (omega arith))
 
 digit-at-requires-4 : tie.Need-digit-at-requires-4
 digit-at-requires-4 c κs = search needs
@@ -64,13 +81,23 @@ add-t16 : tie.Need-add-t16
 add-t16 c = search needs
 
 add-t17 : tie.Need-add-t17
-add-t17 c = omega (arith, decimal-inside _ _ (c .before .before .before .digit-at3 .ensures .0) (c .before .before .if4 .left))
+add-t17 c = omega (arith, decimal-inside _ _ (third (c .before) .digit-at3 .ensures .0) (omega arith))
 
 returns-5 : tie.Need-returns-5
-returns-5 c = decimal-three _ _ (c .before .before .before .before .before .before .before .before .digit-at .ensures .0) (c .before .before .before .before .before .before .before .if1 .left) (c .before .before .before .before .if3 .left) (c .before .before .before .before .before .before .digit-at2 .ensures .0) (c .before .before .before .before .before .if2 .left) (c .before .before .before .digit-at3 .ensures .0) (c .before .before .if4 .left) (c .before .digit-at4 .ensures .0) (c .if5 .taken)
+returns-5 c =
+    let e = c .before in
+    let d = third e in
+    let b = second d in
+    decimal-three _ _ (first b .digit-at .ensures .0) (omega arith) (d .before .if3 .left) (b .digit-at2 .ensures .0) (omega arith)
+    (d .digit-at3 .ensures .0) (omega arith) (e .digit-at4 .ensures .0) (omega arith)
 
 returns-6 : tie.Need-returns-6
-returns-6 c = decimal-four _ _ (c .before .before .before .before .before .before .before .before .digit-at .ensures .0) (c .before .before .before .before .before .before .before .if1 .left) (c .before .before .before .before .if3 .left) (c .before .before .before .before .before .before .digit-at2 .ensures .0) (c .before .before .before .before .before .if2 .left) (c .before .before .before .digit-at3 .ensures .0) (c .before .before .if4 .left) (c .before .digit-at4 .ensures .0) (c .if5 .left)
+returns-6 c =
+    let e = c .before in
+    let d = third e in
+    let b = second d in
+    decimal-four _ _ (first b .digit-at .ensures .0) (omega arith) (d .before .if3 .left) (b .digit-at2 .ensures .0) (omega arith)
+    (d .digit-at3 .ensures .0) (omega arith) (e .digit-at4 .ensures .0) (omega arith)
 
 pub read-decimal-spec : {M : Type 1} → statement M
 read-decimal-spec =

@@ -17,7 +17,7 @@ returns-2 : tie.Need-returns-2
 returns-2 c = sym (digit-decimal _ (c .before .if1 .left) (c .if2 .taken))
 
 returns-3 : tie.Need-returns-3
-returns-3 c = sym (digit-between _ (c .before .if2 .left) (c .if3 .taken))
+returns-3 c = sym (digit-between _ (omega arith) (omega arith))
 
 cast-result-2 : tie.Need-cast-result-2
 cast-result-2 c = search needs

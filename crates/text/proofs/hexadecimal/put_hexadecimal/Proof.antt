@@ -15,7 +15,9 @@ use Rattle.text.proofs.hexadecimal.put_hexadecimal.Statement.{statement
 use Rattle.text.proofs.hexadecimal.put_hexadecimal.Tie as tie
 
 abbrev Inv-loop : tie.InvT-loop
-Inv-loop out₀ at s d i₀ out i = (i ≤ d) × (length out ≡ length out₀) × (putAt out (at + i) (hexadecimal (d - i) (set256 s)) ≡ putAt out₀ at (hexadecimal d (set256 s)))
+Inv-loop out₀ at s d i₀ out i =
+    (i ≤ d) × (length out ≡ length out₀)
+    × (putAt out (at + i) (hexadecimal (d - i) (set256 s)) ≡ putAt out₀ at (hexadecimal d (set256 s)))
 
 abbrev μ-loop : tie.MeasureT-loop
 μ-loop out₀ at s d i₀ out i = d - i
@@ -54,7 +56,13 @@ loop-less : tie.Need-loop-less Inv-loop μ-loop
 loop-less c = search needs
 
 loop-again : tie.Need-loop-again Inv-loop μ-loop
-loop-again c = (omega arith, simp length-set (c .before .before .before .loop .inv .1), hex-store _ _ _ _ _ _ _ _ (c .before .before .loop-test .taken) refl (c .digit-byte .ensures ∙ ap digitByte (rw (c .before .word .ensures) (hex-nibble _ _))) (c .before .before .before .loop .inv .2))
+loop-again c =
+    let t = c .before .before in
+    let i = t .before .loop .inv in (
+      omega arith,
+      simp length-set (i .1),
+      hex-store _ _ _ _ _ _ _ _ (t .loop-test .taken) refl (c .digit-byte .ensures ∙ ap digitByte (rw (c .before .word .ensures) (hex-nibble _ _))) (i .2),
+    )
 
 add-result : tie.Need-add-result Inv-loop μ-loop
 add-result c = search needs

@@ -21,7 +21,7 @@ unfolding hexadecimalValue
 loop-holds c = (omega arith, hex-end _ _ _ (c .before .pre .1), refl)
 
 mul-v : tie.Need-mul-v Inv-loop μ-loop
-mul-v c = omega (arith, hex-room _ _ _ _ (c .loop-test .taken) (c .before .before .before .pre .0) (c .before .before .before .pre .1))
+mul-v c = let p = c .before .before .before .pre in omega (arith, hex-room _ _ _ _ (c .loop-test .taken) (p .0) (p .1))
 
 add-digit-at : tie.Need-add-digit-at Inv-loop μ-loop
 add-digit-at c = search needs
@@ -30,7 +30,10 @@ digit-at-requires : tie.Need-digit-at-requires Inv-loop μ-loop
 digit-at-requires c κs = search needs
 
 add-v : tie.Need-add-v Inv-loop μ-loop
-add-v c = omega (arith, hex-room _ _ _ _ (c .before .loop-test .taken) (c .before .before .before .before .pre .0) (c .before .before .before .before .pre .1), hex-digit _ _ _ (c .before .before .before .before .pre .1) _ (c .before .loop-test .taken), c .digit-at .ensures .0)
+add-v c =
+    let l = c .before in
+    let p = l .before .before .before .pre in
+    omega (arith, hex-room _ _ _ _ (l .loop-test .taken) (p .0) (p .1), hex-digit _ _ _ (p .1) _ (l .loop-test .taken), c .digit-at .ensures .0)
 
 add-i : tie.Need-add-i Inv-loop μ-loop
 add-i c = search needs
@@ -42,7 +45,7 @@ loop-again : tie.Need-loop-again Inv-loop μ-loop
 loop-again c = (omega arith, omega arith, rw hex-more (cc))
 
 returns : tie.Need-returns Inv-loop μ-loop
-returns c = let e : c .before .loop .i ≡ c .before .before .before .args .d = omega arith in rw e at (c .before .loop .inv .2)
+returns c = let l = c .before in let e : l .loop .i ≡ l .before .before .args .d = omega arith in rw e at (l .loop .inv .2)
 
 pub word-of-spec : {M : Type 1} → statement M
 word-of-spec =

@@ -1,12 +1,40 @@
 -- Each return is one way through `rowDigitsAt`.
 -- Assumes nothing.
 use borrow.Author.Needs.{needs}
-use mathlib.Core.Path.{sym, _∙_}
-use Rattle.text.proofs.Bytes.{fixed-there, fixed-missing, line-end-there, line-end-missing}
-use Rattle.text.proofs.Hexadecimals.{hexadecimal-there, hexadecimal-missing}
-use Rattle.text_crew.proofs.Lines.{row-number, row-other, row-comma, row-digits, row-end, row-whole}
+use mathlib.Core.Path.{_≡_, sym, _∙_}
+use Rattle.text.specs.declared.decimal.Decimal.the-variants.{Number}
+use Rattle.text.specs.Decimal.{decimalAt}
+use Rattle.text_crew.proofs.Lines.{NumberRead, DigitsRead, row-number, row-other, no-row-comma, number-read, no-row-digits, digits-read, no-row-end, row-read-whole}
 use Rattle.text_crew.proofs.row.read_row.Statement.{statement}
 use Rattle.text_crew.proofs.row.read_row.Tie as tie
+
+-- ---- what is known after each field
+
+number : (c : tie.After-value)
+    → let a = c .before .before .before .before .args in
+    decimalAt (a .text .now) (a .at) ≡ Number (c .value .given .0 .0) (c .value .given .0 .1 .0)
+number c = sym (c .before .before .read-decimal .ensures) ∙ c .value .given .1
+
+abbrev at-value : tie.After-digits → tie.After-value
+at-value c = c .before .before .before .before .before .before
+
+abbrev begun : tie.After-digits → tie.Start
+begun c = at-value c .before .before .before .before
+
+parted : (c : tie.After-digits) → let a = begun c .args in NumberRead (a .text .now) (a .u) (a .at) (c .digits .given .0 .0)
+parted c =
+    let r = c .before .before in
+    number-read _ _ _ (number (at-value c)) (r .before .before .if1 .left) (r .read-fixed .ensures) (c .digits .given .1)
+
+abbrev at-digits : tie.After-end → tie.After-digits
+at-digits c = c .before .before .before .before
+
+digits : (c : tie.After-end)
+    → let a = begun (at-digits c) .args in
+    DigitsRead (a .text .now) (a .d) (a .u) (a .at) (at-digits c .digits .given .0 .0) (c .end .given .0 .0)
+digits c = digits-read _ _ _ _ (parted (at-digits c)) (c .before .before .read-hexadecimal .ensures) (c .end .given .1)
+
+-- ---- the needs
 
 read-decimal-requires : tie.Need-read-decimal-requires
 read-decimal-requires c κs = search needs
@@ -21,9 +49,7 @@ returns : tie.Need-returns
 returns c = row-number _ _ _ _ (sym (c .before .before .read-decimal .ensures) ∙ c .enum-told .given .1)
 
 returns-2 : tie.Need-returns-2
-returns-2 c =
-    let v = sym (c .before .before .before .before .read-decimal .ensures) ∙ c .before .before .value .given .1 in
-    row-other _ _ _ _ v (c .if1 .taken)
+returns-2 c = row-other _ _ _ _ (number (c .before .before)) (c .if1 .taken)
 
 slice-aggregate-read-fixed : tie.Need-slice-aggregate-read-fixed
 slice-aggregate-read-fixed c = search needs
@@ -39,8 +65,8 @@ enum-told-2 c = search needs
 
 returns-3 : tie.Need-returns-3
 returns-3 c =
-    let v = sym (c .before .before .before .before .before .before .before .before .read-decimal .ensures) ∙ c .before .before .before .before .before .before .value .given .1 in
-    row-comma _ _ _ _ v (c .before .before .before .before .if1 .left) (fixed-missing _ _ _ (c .before .before .read-fixed .ensures) (c .enum-told2 .given .1))
+    let t = c .before .before .before .before in
+    no-row-comma _ _ _ (number (t .before .before)) (t .if1 .left) (c .before .before .read-fixed .ensures) _ (c .enum-told2 .given .1)
 
 read-hexadecimal-requires : tie.Need-read-hexadecimal-requires
 read-hexadecimal-requires c κs = search needs
@@ -52,10 +78,7 @@ enum-told-3 : tie.Need-enum-told-3
 enum-told-3 c = search needs
 
 returns-4 : tie.Need-returns-4
-returns-4 c =
-    let v = sym (c .before .before .before .before .before .before .before .before .before .before .before .before .read-decimal .ensures) ∙ c .before .before .before .before .before .before .before .before .before .before .value .given .1 in
-    let s = fixed-there _ _ _ (c .before .before .before .before .before .before .read-fixed .ensures) (c .before .before .before .before .digits .given .1) in
-    row-digits _ _ _ _ v (c .before .before .before .before .before .before .before .before .if1 .left) (s .0) (hexadecimal-missing _ _ _ (rw (s .1) at (c .before .before .read-hexadecimal .ensures)) (c .enum-told3 .given .1))
+returns-4 c = no-row-digits _ _ _ _ (parted (c .before .before .before .before)) (c .before .before .read-hexadecimal .ensures) (c .enum-told3 .given .1)
 
 read-line-end-requires : tie.Need-read-line-end-requires
 read-line-end-requires c κs = search needs
@@ -67,19 +90,10 @@ enum-told-5 : tie.Need-enum-told-5
 enum-told-5 c = search needs
 
 returns-5 : tie.Need-returns-5
-returns-5 c =
-    let v = sym (c .before .before .before .before .before .before .before .before .before .before .before .before .before .before .before .before .read-decimal .ensures) ∙ c .before .before .before .before .before .before .before .before .before .before .before .before .before .before .value .given .1 in
-    let s = fixed-there _ _ _ (c .before .before .before .before .before .before .before .before .before .before .read-fixed .ensures) (c .before .before .before .before .before .before .before .before .digits .given .1) in
-    let d = hexadecimal-there _ _ _ (rw (s .1) at (c .before .before .before .before .before .before .read-hexadecimal .ensures)) (c .before .before .before .before .end .given .1) in
-    row-end _ _ _ _ v (c .before .before .before .before .before .before .before .before .before .before .before .before .if1 .left) (s .0) (d .0) (line-end-missing _ _ (rw (d .1) at (c .before .before .read-line-end .ensures)) (c .enum-told5 .given .1))
+returns-5 c = no-row-end _ _ _ _ (digits (c .before .before .before .before)) (c .before .before .read-line-end .ensures) (c .enum-told5 .given .1)
 
 returns-6 : tie.Need-returns-6
-returns-6 c =
-    let v = sym (c .before .before .before .before .before .before .before .before .before .before .before .before .before .before .before .before .read-decimal .ensures) ∙ c .before .before .before .before .before .before .before .before .before .before .before .before .before .before .value .given .1 in
-    let s = fixed-there _ _ _ (c .before .before .before .before .before .before .before .before .before .before .read-fixed .ensures) (c .before .before .before .before .before .before .before .before .digits .given .1) in
-    let d = hexadecimal-there _ _ _ (rw (s .1) at (c .before .before .before .before .before .before .read-hexadecimal .ensures)) (c .before .before .before .before .end .given .1) in
-    let e = line-end-there _ _ (rw (d .1) at (c .before .before .read-line-end .ensures)) (c .enum-told4 .given .1) in
-    rw (s .1) (row-whole _ _ _ _ v (c .before .before .before .before .before .before .before .before .before .before .before .before .if1 .left) (s .0) (d .0) (e .0))
+returns-6 c = row-read-whole _ _ _ _ (digits (c .before .before .before .before)) (c .before .before .read-line-end .ensures) (c .enum-told4 .given .1)
 
 pub read-row-spec : {M : Type 1} → statement M
 read-row-spec =
