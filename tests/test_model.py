@@ -5,11 +5,14 @@ document 01 on random crew lists, held against brute force and against the secon
 """
 import random
 import sys
+from functools import reduce
 from itertools import combinations
+from operator import and_
 
 import model as M
 from find_guards import WRONG, Machine
 from guards import GUARDS
+from script import digest, mixed
 
 ONES = (1, 1, 1, 1)
 EMPTY = [0] * 2056
@@ -72,6 +75,11 @@ def unstarred_cases():
     refused("strike 0 of none", M.strike(none, 0), 6, none)
     check("eliminate none", M.eliminate(none, ONES, 1, 1)[:3], (0, 0, 0))
     check("review none", M.review(none, ONES)[:3], (0, 0, 0))
+    for n, count in ((7, 126), (8, 254)):
+        rows = M.lacking_one(n)[2]
+        meets = {reduce(and_, chosen) for size in range(1, n + 1) for chosen in combinations(rows, size)}
+        check("%d lacking one, as defined" % n, len(meets - {0}), count)
+        check("%d lacking one, counted" % n, len(M.candidates(rows, 1000)), count)
     check("7 lacking one", M.mine(7, 7, M.crew_words(M.lacking_one(7)[2]), EMPTY)[:2], (0, 126))
     refused("8 lacking one", M.mine(8, 8, M.crew_words(M.lacking_one(8)[2]), EMPTY), 4, EMPTY)
     check("n = 128", M.mine(128, 3, M.crew_words([1] * 128), EMPTY)[:2], (0, 1))
@@ -415,9 +423,33 @@ def random_lists():
     laws(*M.lacking_one(7), rng, 2)
 
 
+# ---- the digest that test programs print -----------------------------------------------------------------------
+
+def digests():
+    """Mixing loses nothing, as 64 bits keep their 64 dimensions; and a bit turned at one place of a record, or of the words beyond it, is not undone by
+    another bit at another place, however far apart they are."""
+    basis = []
+    for bit in range(64):
+        left = mixed(1 << bit)
+        for vector in basis:
+            left = min(left, left ^ vector)
+        basis.append(left)
+    check("mixing is linear", all(mixed(a ^ b) == mixed(a) ^ mixed(b) for a, b in ((3, 6), (BIG, 1 << 63), (7 << 40, 9 << 13))))
+    check("mixing loses nothing", all(basis))
+    apart = True
+    for bit in range(64):
+        d = 1 << bit
+        for _ in range(2057):
+            d = mixed(d)
+            apart &= d & d - 1 != 0
+    check("two bits are never lost", apart)
+    check("{1} and {64} apart", digest([2, 0]) != digest([0, 1]))
+    check("zeros count", len({digest([0] * count) for count in range(2058)}), 2058)
+
+
 if __name__ == "__main__":
     for part in (starred_table, unstarred_cases, refusals, soundness, reader, lister, word_borders, guards,
-                 random_lists):
+                 random_lists, digests):
         part()
     for failure in failures[:20]:
         print(failure)
