@@ -367,6 +367,7 @@ def listing_cases(rng):
     lists += [crews.wide(rng, rng.randrange(65, 257), rng.randrange(4, 9), 4) for _ in range(4)]
     good = [model.crew_text(n, m, rows) for n, m, rows in lists]
     texts = good + damaged_texts()
+    # 2 for n, and then 10 for the length, which comes before it: who reads 16,384 bytes of both would answer 2 twice
     texts += [(b"crew,0,3\n" + b"0" * size)[:size] for size in (16384, 16385)]
     for _ in range(30):  # one byte altered, or all after it cut off
         text = bytearray(rng.choice(good[:9]))
