@@ -4,10 +4,12 @@ document 01 on random crew lists, held against brute force and against the secon
 `python3 tests/test_model.py` prints one line and exits 1 on a failure.
 """
 import random
+import re
 import sys
 from functools import reduce
 from itertools import combinations
 from operator import and_
+from pathlib import Path
 
 import model as M
 from find_guards import WRONG, Machine
@@ -229,6 +231,21 @@ def lister():
 
 # ---- lists at the word borders, with the records that follow from their shape -----------------------------------
 
+def proved_listings():
+    """The listings that crates/listing/proofs/Sample.antt computes from the definition: texts and what is printed, as lists of bytes."""
+    source = (Path(__file__).resolve().parent.parent / "crates/listing/proofs/Sample.antt").read_text(encoding="utf-8")
+    lists = {name: bytes(map(int, re.findall(r"\d+", body))) for name, body in re.findall(r"^(\w+) =\n((?:    .*\n)+)", source, re.M) if "∷" in body}
+    names = re.findall(r": listing (\w+) ≡ (\w+)", source)
+    check("two listings are proved", len(names), 2)
+    for text, printed in names:
+        check("proved listing of " + text, M.lister(lists[text]), lists[printed])
+    code, n, m, words = M.read_crew(lists["digitsText"], [0] * M.BUFFER)
+    code, c, record = M.mine(n, m, words[:4 * n], EMPTY)
+    check("three numbers of digits", [(count + 3) // 4 for count in (n, m, c)], [2, 3, 4])
+    code, struck, _, record = M.eliminate(record, ONES, 1, 1)
+    check("struck, then restored", (struck, M.review(record, ONES)[1]), (7, 1))
+
+
 def word_borders():
     n, m, rows = M.nested_chain(128, 256)
     record = mined(m, rows)
@@ -448,7 +465,7 @@ def digests():
 
 
 if __name__ == "__main__":
-    for part in (starred_table, unstarred_cases, refusals, soundness, reader, lister, word_borders, guards,
+    for part in (starred_table, unstarred_cases, refusals, soundness, reader, lister, proved_listings, word_borders, guards,
                  random_lists, digests):
         part()
     for failure in failures[:20]:
