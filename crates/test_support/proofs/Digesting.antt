@@ -1,17 +1,17 @@
 -- The digest as a loop makes it: what the words that are left add to what was made of those before.
 -- Assumes nothing.
-use mathlib.Core.Path.{_≡_, refl, sym}
-use mathlib.Core.List.{List, [], _∷_}
+use mathlib.Core.Path.{_≡_, refl}
+use mathlib.Core.List.{List}
 use Prim.Native.Nat.{ℕ, _+_, _<_, _≤_}
 use native.Mathlib.Numerals.{add-one}
 use native.Mathlib.Omega.{arith}
 use lib.Bits.{bitXor}
 use lib.ListN.{length, getD, drop, drop-of-length-le}
 use lib.Seq.{drop-cons}
-use Rattle.test_support.specs.Digest.{mixed, digestFrom, digestOf}
+use Rattle.test_support.specs.Digest.{mixed, digestFrom, digestStart, digestOf}
 
 -- of all words
-pub all-left : (ws : List ℕ) → digestFrom 11400714819323198485 (drop 0 ws) ≡ digestOf ws
+pub all-left : (ws : List ℕ) → digestFrom digestStart (drop 0 ws) ≡ digestOf ws
 unfolding digestOf
 all-left ws = refl
 

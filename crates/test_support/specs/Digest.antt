@@ -20,5 +20,9 @@ unfoldable pub digestFrom : ℕ → List ℕ → ℕ
 digestFrom d [] = d
 digestFrom d (w ∷ ws) = digestFrom (mixed (bitXor d w)) ws
 
+-- 9e3779b97f4a7c15 in hexadecimal; zero would be mixed to zero
+abbrev pub digestStart : ℕ
+digestStart = 11400714819323198485
+
 unfoldable pub digestOf : List ℕ → ℕ
-digestOf ws = digestFrom 11400714819323198485 ws
+digestOf ws = digestFrom digestStart ws
