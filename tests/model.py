@@ -60,14 +60,14 @@ def from_words(words):
 
 # ---- mining and the building ----------------------------------------------------------------------------------
 
-def candidates(rows):
+def candidates(rows, most=MOST_ROLES):
     """'All nonempty intersections of one or more persons' crew rows, each distinct set once, numbered by growing
-    value'. None when there are more than 128; fewer rows never give more, so it may stop there."""
+    value'. None when there are more than `most`, 128; fewer rows never give more, so it may stop there."""
     found = set()
     for row in rows:
         found |= {row} | {row & other for other in found}
         found.discard(0)  # an empty intersection stays empty whatever joins it
-        if len(found) > MOST_ROLES:
+        if len(found) > most:
             return None
     return sorted(found)
 

@@ -4,12 +4,17 @@ document 01 on random crew lists, held against brute force and against the secon
 `python3 tests/test_model.py` prints one line and exits 1 on a failure.
 """
 import random
+import re
 import sys
+from functools import reduce
 from itertools import combinations
+from operator import and_
+from pathlib import Path
 
 import model as M
 from find_guards import WRONG, Machine
 from guards import GUARDS
+from script import digest, mixed
 
 ONES = (1, 1, 1, 1)
 EMPTY = [0] * 2056
@@ -72,6 +77,11 @@ def unstarred_cases():
     refused("strike 0 of none", M.strike(none, 0), 6, none)
     check("eliminate none", M.eliminate(none, ONES, 1, 1)[:3], (0, 0, 0))
     check("review none", M.review(none, ONES)[:3], (0, 0, 0))
+    for n, count in ((7, 126), (8, 254)):
+        rows = M.lacking_one(n)[2]
+        meets = {reduce(and_, chosen) for size in range(1, n + 1) for chosen in combinations(rows, size)}
+        check("%d lacking one, as defined" % n, len(meets - {0}), count)
+        check("%d lacking one, counted" % n, len(M.candidates(rows, 1000)), count)
     check("7 lacking one", M.mine(7, 7, M.crew_words(M.lacking_one(7)[2]), EMPTY)[:2], (0, 126))
     refused("8 lacking one", M.mine(8, 8, M.crew_words(M.lacking_one(8)[2]), EMPTY), 4, EMPTY)
     check("n = 128", M.mine(128, 3, M.crew_words([1] * 128), EMPTY)[:2], (0, 1))
@@ -220,6 +230,21 @@ def lister():
 
 
 # ---- lists at the word borders, with the records that follow from their shape -----------------------------------
+
+def proved_listings():
+    """The listings that crates/listing/proofs/Sample.antt computes from the definition: texts and what is printed, as lists of bytes."""
+    source = (Path(__file__).resolve().parent.parent / "crates/listing/proofs/Sample.antt").read_text(encoding="utf-8")
+    lists = {name: bytes(map(int, re.findall(r"\d+", body))) for name, body in re.findall(r"^(\w+) =\n((?:    .*\n)+)", source, re.M) if "∷" in body}
+    names = re.findall(r": listing (\w+) ≡ (\w+)", source)
+    check("two listings are proved", len(names), 2)
+    for text, printed in names:
+        check("proved listing of " + text, M.lister(lists[text]), lists[printed])
+    code, n, m, words = M.read_crew(lists["digitsText"], [0] * M.BUFFER)
+    code, c, record = M.mine(n, m, words[:4 * n], EMPTY)
+    check("three numbers of digits", [(count + 3) // 4 for count in (n, m, c)], [2, 3, 4])
+    code, struck, _, record = M.eliminate(record, ONES, 1, 1)
+    check("struck, then restored", (struck, M.review(record, ONES)[1]), (7, 1))
+
 
 def word_borders():
     n, m, rows = M.nested_chain(128, 256)
@@ -415,9 +440,33 @@ def random_lists():
     laws(*M.lacking_one(7), rng, 2)
 
 
+# ---- the digest that test programs print -----------------------------------------------------------------------
+
+def digests():
+    """Mixing loses nothing, as 64 bits keep their 64 dimensions; and a bit turned at one place of a record, or of the words beyond it, is not undone by
+    another bit at another place, however far apart they are."""
+    basis = []
+    for bit in range(64):
+        left = mixed(1 << bit)
+        for vector in basis:
+            left = min(left, left ^ vector)
+        basis.append(left)
+    check("mixing is linear", all(mixed(a ^ b) == mixed(a) ^ mixed(b) for a, b in ((3, 6), (BIG, 1 << 63), (7 << 40, 9 << 13))))
+    check("mixing loses nothing", all(basis))
+    apart = True
+    for bit in range(64):
+        d = 1 << bit
+        for _ in range(2057):
+            d = mixed(d)
+            apart &= d & d - 1 != 0
+    check("two bits are never lost", apart)
+    check("{1} and {64} apart", digest([2, 0]) != digest([0, 1]))
+    check("zeros count", len({digest([0] * count) for count in range(2058)}), 2058)
+
+
 if __name__ == "__main__":
-    for part in (starred_table, unstarred_cases, refusals, soundness, reader, lister, word_borders, guards,
-                 random_lists):
+    for part in (starred_table, unstarred_cases, refusals, soundness, reader, lister, proved_listings, word_borders, guards,
+                 random_lists, digests):
         part()
     for failure in failures[:20]:
         print(failure)

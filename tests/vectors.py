@@ -11,6 +11,7 @@ import crews
 import guards
 import model
 import worked
+from script import Script, case
 
 ROOT = Path(__file__).resolve().parent.parent
 TARGETS = {}
@@ -45,7 +46,7 @@ def set_cases(rng):
             b = {j for j in range(i + 1) if j < width}
             fields = [int(i in a), len(a), len(b), min(a, default="-"), max(b, default="-"), int(a < b),
                       int(sum(2 ** j for j in a) < sum(2 ** j for j in b))]
-            lines.append("%d %d: %s\n" % (width, i, " ".join(map(str, fields))))
+            lines.append("width %d %d: %s\n" % (width, i, " ".join(map(str, fields))))
     lines.append("apart: %d\n" % (not (set(range(200)) - set(range(100))) & set(range(100))))
     return {"stdout": "".join(lines).encode("ascii")}
 
@@ -76,8 +77,7 @@ def damaged_texts():
 @target("test_text")
 def text_cases(rng):
     """The crew reader on good and damaged texts. A case on standard input: the lengths of the text and of the buffer,
-    whose words are all 7, in four hexadecimal digits each, then the text. The digest takes 33 times what was before
-    and the word, from 5381 on, in 64 bits."""
+    whose words are all 7, in four hexadecimal digits each, then the text."""
     lists = [(3, 3, [3, 6, 7]), (1, 1, [0]), (1, 1, [1]), (1, 256, [2 ** 256 - 1]), (1, 255, [2 ** 254]),
              crews.nested_chain(128, 7), crews.full_table()]
     for n, m in ((1, 64), (2, 65), (5, 127), (4, 128), (3, 129), (10, 11), (11, 9), (100, 3), (101, 1), (6, 192), (6, 193), (2, 250)):
@@ -107,89 +107,16 @@ def text_cases(rng):
     for text, words in cases:
         stdin.append(b"%04x,%04x\n%s" % (len(text), words, text))
         code, n, m, buffer = model.read_crew(text, [7] * words)
-        digest = 5381
-        for word in buffer:
-            digest = 33 * digest % 2 ** 64 ^ word
-        lines.append(b"%d,%d,%d,%016x\n" % (code, n, m, digest))
+        lines.append(case("read", [], [code, n, m], buffer))
     stdin = b"".join(stdin)
     assert len(stdin) <= 65536 and len(cases) >= 100
-    return {"stdin": stdin, "stdout": b"".join(lines)}
+    return {"stdin": stdin, "stdout": "".join(lines).encode("ascii")}
 
 
 @target("test_worked")
 def worked_cases(rng):
-    """Mining, quality and may on the cases of document 01, on lists at its limits and on damaged records."""
-    return {"stdout": "".join(line + "\n" for line in worked.lines()).encode("ascii")}
-
-
-class Script:
-    """A script for the program `test_replay`, made beside what the model answers to it. The record goes from command to command; `beyond` are the
-    program's words that are not lent."""
-
-    def __init__(self):
-        self.record, self.beyond = [0xaaaaaaaaaaaaaaaa] * model.LENGTH, [0xaaaaaaaaaaaaaaaa]
-        self.stdin, self.lines, self.calls = [], [], 0
-
-    def line(self, name, numbers):
-        self.stdin.append(name + "".join(" %016x" % number for number in numbers) + "\n")
-
-    def command(self, name, numbers, answer):
-        self.line(name, numbers)
-        self.lines.append(" ".join([name, *map(str, answer), "%016x" % worked.digest(self.record)]) + "\n")
-        self.calls += name != "d"
-
-    def lend(self, count):
-        words = self.record + self.beyond
-        self.record, self.beyond = words[:count], words[count:]
-        self.line("w", [count])
-
-    def call(self, name, numbers, answer):
-        *answer, self.record = answer
-        self.command(name, numbers, answer)
-
-    def mine(self, n, m, words):
-        self.call("m", [n, m, len(words), *words], model.mine(n, m, words, self.record))
-
-    def strike(self, k):
-        self.call("s", [k], model.strike(self.record, k))
-
-    def restore(self, k):
-        self.call("r", [k], model.restore(self.record, k))
-
-    def eliminate(self, weights, a, b):
-        self.call("e", [*weights, a, b], model.eliminate(self.record, weights, a, b))
-
-    def review(self, weights):
-        self.call("v", weights, model.review(self.record, weights))
-
-    def quality(self, weights):
-        self.call("q", weights, model.quality(self.record, weights))
-
-    def may(self, u, p):
-        self.call("a", [u, p], model.may(self.record, u, p))
-
-    def serve(self, n, m, words, calls, answers=None, kinds=None):
-        """A list of calls [(kind, numbers ..)] in one go: seven words to a call and three to an answer. `answers` may be another count of these,
-        and `kinds` other kinds than the calls have, neither of which can be read."""
-        names = ["strike", "restore", "eliminate", "review"]
-        encoded = []
-        for i, (kind, *numbers) in enumerate(calls):
-            flat = [x for number in numbers for x in (number if isinstance(number, (list, tuple)) else [number])]
-            encoded += ([kinds[i] if kinds else names.index(kind), *flat] + [i] * 6)[:7]  # words that a kind does not name are not looked at
-        count = 3 * len(calls) if answers is None else answers
-        out, told = [7] * count, (0, 0)
-        if count == 3 * len(calls) and not kinds:
-            code, candidates, record = model.mine(n, m, words, self.record)
-            told = (1, code) if code else (2, candidates)
-            for i, (kind, *numbers) in enumerate([] if code else calls):
-                *answer, record = getattr(model, kind)(record, *numbers)
-                out[3 * i:3 * i + 3] = (answer + [0, 0])[:3]
-            self.record = record
-        self.command("l", [n, m, len(words), len(encoded), count, *words, *encoded], [*told, *out])
-
-    def damage(self, place, value):
-        self.record[place] = value
-        self.command("d", [place, value], [])
+    """The cases of document 01, lists at its limits, damaged records and crew texts."""
+    return worked.files()
 
 
 def replay_crews(rng):
@@ -269,12 +196,12 @@ def refused_weights(script):
     for a, b in FALSE_TOLERANCES:
         script.eliminate(ones, a, b)
         script.eliminate([1001, 1, 1, 1], a, b)
-    script.damage(7, 1)
+    script.put(7, 1)
     for weights in (ones, [1001, 1, 1, 1]):
         script.eliminate(weights, 1, 1)
         script.eliminate(weights, 3, 1)
         script.review(weights)
-    script.damage(7, 0)
+    script.put(7, 0)
     for a, b in ((1, 1), (2, 1), (1000, 1000), (2000, 1000)):
         script.eliminate([0, 0, 0, 0], a, b)
         script.review([0, 0, 0, 0])
@@ -408,11 +335,11 @@ def replay(rng):
             if rng.random() < 0.1:
                 place, value = damage_of(rng, script.record)
                 kept = script.record[place]
-                script.damage(place, value)
+                script.put(place, value)
                 rng.choice((lambda: script.strike(rng.randrange(crew.c + 1)), lambda: script.restore(rng.randrange(crew.c + 1)),
                             lambda: script.eliminate(weights_of(rng), *tolerance_of(rng)), lambda: script.review(weights_of(rng)),
                             lambda: script.quality([1, 1, 1, 1]), lambda: script.may(0, 0)))()
-                script.damage(place, kept)
+                script.put(place, kept)
             if rng.random() < 0.02:
                 n2, m2, words = rng.choice(((0, 3, []), (129, 3, [1, 0, 0, 0] * 129), (1, 257, [1, 0, 0, 0]), (1, 3, [8, 0, 0, 0]), (2, 3, [1, 0, 0, 0])))
                 script.mine(n2, m2, words)
@@ -421,9 +348,10 @@ def replay(rng):
     worst_lists(script, rng)
     other_lengths(script)
     served_lists(script, rng)
-    stdin = "".join(script.stdin) + "s 000000000000000g\n" + "s %016x\n" % 0
-    assert script.calls >= 2000 and len(stdin) < 2 * 10 ** 6
-    return {"stdin": stdin.encode("ascii"), "stdout": ("".join(script.lines) + "unreadable\n").encode("ascii")}
+    script.stdin += ["s 000000000000000g\n", "s %016x\n" % 0]
+    script.lines.append("unreadable\n")
+    assert script.calls >= 2000
+    return script.files()
 
 
 @target("test_listing")
@@ -439,6 +367,7 @@ def listing_cases(rng):
     lists += [crews.wide(rng, rng.randrange(65, 257), rng.randrange(4, 9), 4) for _ in range(4)]
     good = [model.crew_text(n, m, rows) for n, m, rows in lists]
     texts = good + damaged_texts()
+    # 2 for n, and then 10 for the length, which comes before it: who reads 16,384 bytes of both would answer 2 twice
     texts += [(b"crew,0,3\n" + b"0" * size)[:size] for size in (16384, 16385)]
     for _ in range(30):  # one byte altered, or all after it cut off
         text = bytearray(rng.choice(good[:9]))

@@ -1,21 +1,13 @@
-"""What the program `test_worked` prints, case by case, from the model."""
+"""The script of the program `test_worked`: the cases of document 01, run in their order, with a title before each."""
 import random
-from functools import reduce
-from operator import or_
 
 import model
+from script import Script
 
 FAR = 2 ** 63
 FOUR = 1 + 2 ** 64 + 2 ** 128 + 2 ** 192  # permissions 0, 64, 128 and 192
-SMALL = (3, 3, [3, 6, 7])
-
-
-def digest(words):
-    """Of a record, as the test programs print it: turned right by one bit before each word is added."""
-    d = 0
-    for word in words:
-        d = (d >> 1 | (d & 1) << 63) ^ word
-    return d
+ONES = (1, 1, 1, 1)
+ONE, EQUAL, EMPTY, SMALL = (1, 1, [1]), (2, 3, [5, 5]), (3, 4, [0, 0, 0]), (3, 3, [3, 6, 7])
 
 
 def lacking(n):
@@ -39,244 +31,240 @@ MOST = 8, 8, [255 - 2 ** i for i in range(7)] + [255]
 FULL = 128, 256, [FOUR] * 128
 
 
-class Run:
-    """The program's lines so far, and the record that goes from case to case."""
+class Cases(Script):
+    """What the cases have in common."""
 
-    def __init__(self):
-        self.lines = []
-        self.record = [0xaaaaaaaaaaaaaaaa] * model.LENGTH
-
-    def say(self, name, numbers, answers):
-        self.lines.append(" ".join([name, *map(str, numbers)]) + ":" + "".join(" %d" % a for a in answers))
-
-    def mined(self, label, crew_list, words=None):
+    def mined(self, title, crew_list):
         n, m, rows = crew_list
-        words = model.crew_words(rows) if words is None else words
-        code, candidates, self.record = model.mine(n, m, words, self.record)
-        self.say(str(label), (), (code, candidates, digest(self.record)))
-
-    def mined_beside(self, label, length):
-        """Mined into a record of another length, which is not kept."""
-        code, candidates, record = model.mine(1, 1, [1, 0, 0, 0], [7] * length)
-        self.say(str(label), (), (code, candidates, digest(record)))
-
-    def weighed(self, *weights):
-        self.say("quality", weights, model.quality(self.record, weights)[:2])
-
-    def asked(self, u, p):
-        self.say("may", (u, p), model.may(self.record, u, p)[:2])
-
-    def edited(self, name, numbers, result):
-        *answers, self.record = result
-        self.say(name, numbers, (*answers, digest(self.record)))
-
-    def struck(self, *roles):
-        for k in roles:
-            self.edited("strike", (k,), model.strike(self.record, k))
-
-    def restored(self, *roles):
-        for k in roles:
-            self.edited("restore", (k,), model.restore(self.record, k))
-
-    def eliminated(self, w, a, b):
-        self.edited("eliminate", (w, a, b), model.eliminate(self.record, (w, 1, 1, 1), a, b))
-
-    def reviewed(self, w):
-        self.edited("review", (w,), model.review(self.record, (1, w, 1, 1)))
-
-    def everyone(self, n, m):
-        """Each user's rights, 64 permissions to a number, and one number more where m fills its last; then all refusals as one."""
-        for u in range(n):
-            answers = [model.may(self.record, u, p)[:2] for p in range(m)]
-            rights = model.to_words(model.collect(p for p in range(m) if answers[p][1]), m // 64 + 1)
-            self.say("user", (u,), [*rights, reduce(or_, (code for code, _ in answers))])
+        self.title(title)
+        self.mine(n, m, model.crew_words(rows))
 
     def each_weight(self):
-        for weights in ((1, 0, 0, 0), (0, 1, 0, 0), (0, 0, 1, 0), (0, 0, 0, 1), (1, 1, 1, 1), (1000,) * 4):
-            self.weighed(*weights)
+        """Each count by itself, all together, and the greatest weights."""
+        for weights in ((1, 0, 0, 0), (0, 1, 0, 0), (0, 0, 1, 0), (0, 0, 0, 1), ONES, (1000,) * 4):
+            self.quality(weights)
 
-    def both(self, record):
-        return *model.quality(record, (1, 1, 1, 1))[:2], *model.may(record, 0, 0)[:2]
+    def everyone(self, n, m):
+        for u in range(n):
+            for p in range(m):
+                self.may(u, p)
 
-    def whole(self):
-        self.say("whole", (), (*self.both(self.record), digest(self.record)))
+    def both(self):
+        """The two calls that read."""
+        self.quality(ONES)
+        self.may(0, 0)
 
     def changed(self, place, *values):
+        """The word at a place changed to each of these values, and put back each time."""
         for value in values:
-            record = list(self.record)
-            record[place] = value
-            self.say("word", (place, value), self.both(record))
+            kept = self.record[place]
+            self.put(place, value)
+            self.both()
+            self.put(place, kept)
 
     def turned(self, bit, *places):
+        """The same bit turned in the word at each of these places, and turned back."""
         for place in places:
             self.changed(place, self.record[place] ^ 1 << bit)
 
-    def front(self, record, length):
-        self.say("length", (length,), self.both(record[:length]))
+    def become(self, record):
+        """The record word by word made into this one."""
+        for place, value in enumerate(record):
+            if self.record[place] != value:
+                self.put(place, value)
+
+    def edited(self):
+        """Each call that edits, once."""
+        self.strike(0)
+        self.restore(0)
+        self.eliminate(ONES, 1, 1)
+        self.review(ONES)
 
 
-def mining(run):
-    """The cases of document 01, lists at its limits and lists wider than a word."""
-    cases = [(1, 1, [1]), (2, 3, [5, 5]), (3, 4, [0, 0, 0]), SMALL, lacking(7), lacking(8), FULL, (129, 256, [FOUR] * 129),
-             (0, 3, []), (2, 256, [2 ** 255, 2 ** 255 + 1]), (2, 257, [1, 2]), (1, 0, [0]), (1, 3, [8]), (1, 3, None),
-             (2, 64, [2 ** 63, 2 ** 64]), (2, 65, [2 ** 64, 2 ** 65]), WIDE[65], WIDE[129], WIDE[256]]
-    for label, crew_list in enumerate(cases, 1):
-        run.mined(label, crew_list, [7, 0, 0] if crew_list[2] is None else None)
-    for label, length in ((20, 2055), (21, 2057), (22, 0)):
-        run.mined_beside(label, length)
+def mining(cases):
+    """The cases of document 01, lists at its limits and lists wider than a word. The record is not cleared between them, so that a refusal shows
+    that it was left as it was."""
+    for title, crew_list in (("One person, row 1", ONE), ("Two equal rows", EQUAL), ("All rows empty", EMPTY), ("Rows 3, 6, 7", SMALL),
+                             ("7 persons, m = 7, person i lacking only permission i", lacking(7)), ("8 and 8 likewise", lacking(8)),
+                             ("n = 128, m = 256", FULL), ("n = 129", (129, 256, [FOUR] * 129)), ("n = 0", (0, 3, [])),
+                             ("m = 256, the last permission", (2, 256, [2 ** 255, 2 ** 255 + 1])), ("m = 257", (2, 257, [1, 2])),
+                             ("m = 0", (1, 0, [0])), ("Row 8 with m = 3", (1, 3, [8]))):
+        cases.mined(title, crew_list)
+    cases.title("Three crew words")
+    cases.mine(1, 3, [7, 0, 0])
+    for title, crew_list in (("A bit at m = 64", (2, 64, [2 ** 63, 2 ** 64])), ("A bit at m = 65", (2, 65, [2 ** 64, 2 ** 65])),
+                             ("Rows of two words", WIDE[65]), ("Rows of three words", WIDE[129]), ("Rows of four words", WIDE[256])):
+        cases.mined(title, crew_list)
+    for length in (model.LENGTH - 1, model.LENGTH + 1, 0):
+        cases.lend(length)
+        cases.mined("A record of %d words" % length, ONE)
+    cases.lend(model.LENGTH)
 
 
-def asking(run):
+def asking(cases):
     """Quality by each count and at the limits of a weight; may for all of a list, and at the limits of u and p."""
-    small = [(1, 1, [1]), (2, 3, [5, 5]), (3, 4, [0, 0, 0]), SMALL]
-    for label, (n, m, rows) in enumerate(small, 23):
-        run.mined(label, (n, m, rows))
-        run.each_weight()
-        run.everyone(n, m)
+    for title, crew_list in (("One person: quality and rights", ONE), ("Two equal rows: quality and rights", EQUAL),
+                             ("All rows empty: quality and rights", EMPTY), ("Rows 3, 6, 7: quality and rights", SMALL)):
+        cases.mined(title, crew_list)
+        cases.each_weight()
+        cases.everyone(*crew_list[:2])
+    cases.title("Weights and persons past the limits")
     for weights in ((0, 0, 0, 0), (2, 3, 5, 7), (1001, 0, 0, 0), (0, 1001, 0, 0), (0, 0, 1001, 0), (0, 0, 0, 1001), (FAR, 1, 1, 1),
                     (1, 1, 1, 2 ** 64 - 1)):
-        run.weighed(*weights)
+        cases.quality(weights)
     for u, p in ((2, 2), (3, 2), (2, 3), (3, 3), (FAR, 0), (0, FAR), (2 ** 32, 0), (0, 2 ** 64 - 1)):
-        run.asked(u, p)
-    for label, (n, m, rows) in enumerate((lacking(7), MOST, WIDE[65], WIDE[129]), 27):
-        run.mined(label, (n, m, rows))
-        run.each_weight()
-        run.everyone(n, m)
-    run.mined(31, FULL)
-    run.each_weight()
+        cases.may(u, p)
+    for title, crew_list in (("126 candidates: quality and rights", lacking(7)), ("128 candidates: quality and rights", MOST),
+                             ("Rows of two words: quality and rights", WIDE[65]), ("Rows of three words: quality and rights", WIDE[129])):
+        cases.mined(title, crew_list)
+        cases.each_weight()
+        cases.everyone(*crew_list[:2])
+    cases.mined("n = 128, m = 256: quality, the last person and the last permission", FULL)
+    cases.each_weight()
     for u, p in ((127, 192), (127, 255), (0, 64), (0, 63), (128, 0), (0, 256)):
-        run.asked(u, p)
+        cases.may(u, p)
 
 
-def damaging(run):
+def damaging(cases):
     """One word of a record changed, in each region and at each limit of the header."""
-    run.mined(32, SMALL)
-    run.whole()
-    run.changed(0, 0, 1, 2, 4, 128, 129, 2 ** 32 + 3, FAR, FAR + 3, 2 ** 64 - 1)
-    run.changed(1, 0, 1, 2, 4, 256, 257, 2 ** 32 + 3, FAR, FAR + 3, 2 ** 64 - 1)
-    run.changed(2, 0, 3, 5, 128, 2 ** 32 + 4, FAR)
-    run.turned(0, 3, 4, 5, 6, 7, 9, 16, 20, 516, 520, 536, 1028, 1044, 1048, 1540, 1544, 1552, 1798, 1800, 1808, 2054)
-    run.turned(63, 3, 4, 5, 6, 7, 11, 19, 23, 519, 523, 1031, 1035, 1543, 1545, 1799, 1801, 2055)
-    run.turned(3, 4, 8)
-    run.turned(4, 4)
-    run.turned(2, 8, 532, 1550)
-    run.turned(1, 1032, 1806)
-    run.record[7] = 1
-    run.weighed(1001, 0, 0, 0)
-    run.asked(3, 3)
-    run.record[7] = 0
-    run.whole()
-    run.mined(33, lacking(7))
-    run.changed(2, 125, 127)
+    cases.mined("Rows 3, 6, 7 with one word changed", SMALL)
+    cases.both()
+    cases.changed(0, 0, 1, 2, 4, 128, 129, 2 ** 32 + 3, FAR, FAR + 3, 2 ** 64 - 1)
+    cases.changed(1, 0, 1, 2, 4, 256, 257, 2 ** 32 + 3, FAR, FAR + 3, 2 ** 64 - 1)
+    cases.changed(2, 0, 3, 5, 128, 2 ** 32 + 4, FAR)
+    cases.turned(0, 3, 4, 5, 6, 7, 9, 16, 20, 516, 520, 536, 1028, 1044, 1048, 1540, 1544, 1552, 1798, 1800, 1808, 2054)
+    cases.turned(63, 3, 4, 5, 6, 7, 11, 19, 23, 519, 523, 1031, 1035, 1543, 1545, 1799, 1801, 2055)
+    cases.turned(3, 4, 8)
+    cases.turned(4, 4)
+    cases.turned(2, 8, 532, 1550)
+    cases.turned(1, 1032, 1806)
+    cases.title("5 before 6 and 9")
+    cases.put(7, 1)
+    cases.quality((1001, 0, 0, 0))
+    cases.may(3, 3)
+    cases.put(7, 0)
+    cases.both()
+    cases.mined("126 candidates with one word changed: c, and the roles at c and above", lacking(7))
+    cases.changed(2, 125, 127)
     for bit in (61, 62, 63):
-        run.turned(bit, 5)
-    run.turned(0, 1024)
-    run.whole()
-    run.mined(34, MOST)
-    run.changed(2, 127, 129)
-    run.turned(0, 1028, 1540, 1798)
-    run.turned(63, 5)
-    run.turned(62, 2055)
-    run.whole()
-    run.mined(35, FULL)
-    run.changed(0, 127, 129)
-    run.changed(1, 192, 193, 257)
-    run.turned(0, 519)
-    run.turned(63, 1545)
-    run.mined(36, WIDE[129])
-    run.changed(1, 128, 130)
-    run.turned(0, 10, 11, 522, 1034)
-    run.turned(1, 10)
-    run.mined(37, (3, 4, [0, 0, 0]))
-    run.changed(0, 0, 1, 128, 129)
-    run.changed(1, 0, 1, 256, 257)
-    run.changed(2, 1)
-    run.turned(0, 4, 8, 1544)
-    run.whole()
+        cases.turned(bit, 5)
+    cases.turned(0, 1024)
+    cases.both()
+    cases.mined("128 candidates with one word changed: c, and the last role's set and row", MOST)
+    cases.changed(2, 127, 129)
+    cases.turned(0, 1028, 1540, 1798)
+    cases.turned(63, 5)
+    cases.turned(62, 2055)
+    cases.both()
+    cases.mined("n = 128, m = 256 with one word changed", FULL)
+    cases.changed(0, 127, 129)
+    cases.changed(1, 192, 193, 257)
+    cases.turned(0, 519)
+    cases.turned(63, 1545)
+    cases.mined("Rows of three words with one word changed: permission 128 is the last", WIDE[129])
+    cases.changed(1, 128, 130)
+    cases.turned(0, 10, 11, 522, 1034)
+    cases.turned(1, 10)
+    cases.mined("All rows empty with one word changed: only the limits decide, and there is no role", EMPTY)
+    cases.changed(0, 0, 1, 128, 129)
+    cases.changed(1, 0, 1, 256, 257)
+    cases.changed(2, 1)
+    cases.turned(0, 4, 8, 1544)
+    cases.both()
 
 
-def lengths(run):
-    """A sound record of which too little is lent, or a word too much."""
+def lengths(cases):
+    """A sound record of which too little is lent, or a word too much: 1 comes before the other refusals."""
+    cases.mined("Rows 3, 6, 7, too little lent, or a word too much", SMALL)
+    for length in (model.LENGTH, model.LENGTH - 1, 0, model.LENGTH + 1):
+        cases.lend(length)
+        cases.both()
+    cases.quality((1001, 0, 0, 0))
+    cases.may(3, 3)
+    cases.lend(model.LENGTH)
+
+
+def standing_sets(cases):
+    """Rows 3, 6, 7 built afresh with other standing sets; the last three leave a grant bare, which is 5."""
     n, m, rows = SMALL
-    record = model.fresh(n, m, rows) + [0]
-    run.say("38", (), (0, record[2], digest(record[:2056])))
-    for length in (2056, 2055, 0, 2057):
-        run.front(record, length)
-    run.say("quality", (1001, 0, 0, 0), model.quality(record, (1001, 0, 0, 0))[:2])
-    run.say("may", (3, 3), model.may(record, 3, 3)[:2])
-
-
-def standing_sets(run):
-    """Rows 3, 6, 7 built afresh with other standing sets; the last three leave a grant bare."""
-    run.mined(39, SMALL)
-    n, m, rows = SMALL
+    cases.mined("Rows 3, 6, 7 with other standing sets", SMALL)
     for standing in ({1, 2, 3}, {1, 2}, {0, 1, 2}, {0, 2, 3}, {3}, set()):
-        run.record = model.build(n, m, rows, model.collect(standing))
-        run.say("built", (), (digest(run.record),))
-        run.weighed(1, 1, 1, 1)
-        run.everyone(n, m)
+        cases.title("Standing: " + (" ".join(map(str, sorted(standing))) or "none"))
+        cases.become(model.build(n, m, rows, model.collect(standing)))
+        cases.quality(ONES)
+        cases.everyone(n, m)
 
 
-def editing(run):
+def editing(cases):
     """The calls that edit: the rehearsal list, the limits of what they take, other lists, and records that do not fit."""
-    run.mined(40, SMALL)
-    run.struck(0)
-    run.weighed(1, 1, 1, 1)
-    run.struck(3)
-    run.weighed(1, 1, 1, 1)
-    run.restored(3, 0)
-    run.weighed(1, 1, 1, 1)
-    run.struck(1)
-    run.restored(0)
-    run.struck(4)
-    run.restored(4)
-    run.struck(0, 0, FAR)
-    run.restored(2 ** 32)
-    run.struck(128)
-    run.restored(0)
-    run.eliminated(1, 1, 1)
-    run.reviewed(1)
-    run.mined(41, SMALL)
+    cases.mined("Rows 3, 6, 7: strike 0, then 3, and back in the other order", SMALL)
+    cases.strike(0)
+    cases.quality(ONES)
+    cases.strike(3)
+    cases.quality(ONES)
+    cases.restore(3)
+    cases.restore(0)
+    cases.quality(ONES)
+    cases.title("Refused: 8, 7, 6")
+    cases.strike(1)
+    cases.restore(0)
+    cases.strike(4)
+    cases.restore(4)
+    for k in (0, 0, FAR):
+        cases.strike(k)
+    cases.restore(2 ** 32)
+    cases.strike(128)
+    cases.restore(0)
+    cases.title("Eliminate 1/1, and review after that")
+    cases.eliminate(ONES, 1, 1)
+    cases.review(ONES)
+    cases.mined("Rows 3, 6, 7: weights and tolerances at and past their limits", SMALL)
     for w, a, b in ((1, 0, 1), (1, 3, 1), (1, 0, 0), (1, 1001, 1001), (1001, 1, 1), (1, 2001, 1000), (1, 1, FAR)):
-        run.eliminated(w, a, b)
-    run.reviewed(1001)
-    run.eliminated(1, 2000, 1000)
-    run.reviewed(1000)
-    run.mined(42, (1, 1, [1]))
-    run.struck(0)
-    run.mined(43, (3, 4, [0, 0, 0]))
-    run.struck(0)
-    run.eliminated(1, 1, 1)
-    run.reviewed(1)
-    run.mined(44, lacking(7))
-    run.struck(0, 125)
-    run.eliminated(1, 1, 1)
-    run.reviewed(0)
-    run.weighed(1, 1, 1, 1)
-    for length in (model.LENGTH + 1, model.LENGTH):
-        run.record = [0] * length
-        run.struck(0)
-        run.restored(0)
-        run.eliminated(1, 1, 1)
-        run.reviewed(1)
+        cases.eliminate((w, 1, 1, 1), a, b)
+    cases.review((1, 1001, 1, 1))
+    cases.eliminate(ONES, 2000, 1000)
+    cases.review((1, 1000, 1, 1))
+    cases.mined("One person, row 1: strike 0 is 8", ONE)
+    cases.strike(0)
+    cases.mined("All rows empty: nothing to strike", EMPTY)
+    cases.strike(0)
+    cases.eliminate(ONES, 1, 1)
+    cases.review(ONES)
+    cases.mined("126 candidates", lacking(7))
+    cases.strike(0)
+    cases.strike(125)
+    cases.eliminate(ONES, 1, 1)
+    cases.review((1, 0, 1, 1))
+    cases.quality(ONES)
+    cases.mined("A record of zeros", ONE)
+    cases.become([0] * model.LENGTH)
+    cases.edited()
+    cases.lend(model.LENGTH + 1)
+    cases.put(model.LENGTH, 0)
+    cases.edited()
+    cases.lend(model.LENGTH)
 
 
-def reading(run):
+def reading(cases):
     """The reader's limits of n and m, a digit with a bit at m, and each fault of form once."""
     everyone = b"".join(b"%d,%d\n" % (u, u < 127) for u in range(128))
-    texts = [b"crew,128,1\n" + everyone, b"crew,129,1\n", b"crew,0,1\n", b"crew,1,256\n0,8" + b"0" * 62 + b"1\n", b"crew,1,257\n", b"crew,1,0\n",
-             b"crew,1,3\n0,7\n", b"crew,1,3\n0,8\n", b"crew,3,3\n0,3\n1,6\n2,7\n", b"crew,2,5\n0,1f\n1,20\n",
-             b"", b"Crew,1,3\n0,7\n", b"crew;1,3\n0,7\n", b"crew,,3\n0,7\n", b"crew,01,3\n0,7\n", b"crew,1000,3\n0,7\n", b"crew,1;3\n0,7\n",
-             b"crew,1,3 \n0,7\n", b"crew,1,3", b"crew,0,3;",
-             b"crew,1,3\n", b"crew,1,3\n1,7\n", b"crew,1,3\n00,7\n", b"crew,1,3\n0;7\n", b"crew,1,4\n0,A\n", b"crew,1,3\n0,\n",
-             b"crew,1,3\n0,07\n", b"crew,1,3\n0,7", b"crew,1,3\n0,7;", b"crew,1,3\n0,7\n\n", b"crew,1,3\n0,8;"]
-    for text, length in [(text, model.BUFFER) for text in texts] + [(b"crew,1,0\n", model.BUFFER - 1)]:
-        code, n, m, words = model.read_crew(text, [5] + [0] * (length - 2) + [9])
-        run.say("read", (), (code, n, m, digest(words)))
+    limits = [b"crew,128,1\n" + everyone, b"crew,129,1\n", b"crew,0,1\n", b"crew,1,256\n0,8" + b"0" * 62 + b"1\n", b"crew,1,257\n", b"crew,1,0\n",
+              b"crew,1,3\n0,7\n", b"crew,1,3\n0,8\n", b"crew,3,3\n0,3\n1,6\n2,7\n", b"crew,2,5\n0,1f\n1,20\n"]
+    headers = [b"", b"Crew,1,3\n0,7\n", b"crew;1,3\n0,7\n", b"crew,,3\n0,7\n", b"crew,01,3\n0,7\n", b"crew,1000,3\n0,7\n", b"crew,1;3\n0,7\n",
+               b"crew,1,3 \n0,7\n", b"crew,1,3", b"crew,0,3;"]
+    rows = [b"crew,1,3\n", b"crew,1,3\n1,7\n", b"crew,1,3\n00,7\n", b"crew,1,3\n0;7\n", b"crew,1,4\n0,A\n", b"crew,1,3\n0,\n",
+            b"crew,1,3\n0,07\n", b"crew,1,3\n0,7", b"crew,1,3\n0,7;", b"crew,1,3\n0,7\n\n", b"crew,1,3\n0,8;"]
+    for title, texts in (("Crew texts: n and m at and past their limits, row digit 8 with m = 3", limits), ("Crew texts: faults of the header", headers),
+                         ("Crew texts: faults of a row, and bytes after the last", rows)):
+        cases.title(title)
+        for text in texts:
+            cases.read(text)
+    cases.title("A buffer of 511 words, before the text is looked at")
+    cases.read(b"crew,1,0\n", model.BUFFER - 1)
 
 
-def lines():
-    run = Run()
+def files():
+    cases = Cases()
     for part in (mining, asking, damaging, lengths, standing_sets, editing, reading):
-        part(run)
-    return run.lines
+        part(cases)
+    return cases.files()

@@ -2,3 +2,4 @@ pub mod Puts
 pub mod Rendered
 pub mod Read
 pub mod Sample
+pub mod Cut

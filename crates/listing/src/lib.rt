@@ -12,6 +12,7 @@ ghost use Rattle.listing.specs.Words.{mostBytes};
 
 mod lines;
 mod roles;
+mod stream;
 
 use crate::roles::put_refused;
 use crate::roles::put_roles;
@@ -19,6 +20,7 @@ use panel::panel_eliminate;
 use panel::panel_mine;
 use panel::panel_read_crew;
 use panel::panel_review;
+pub use stream::list_stream;
 use tables::LENGTH;
 
 // More than any text's roles need.

@@ -4,6 +4,7 @@ ghost use Prim.Native.Nat.{_+_, _<_, _≤_};
 ghost use lib.ListN.{length, getD};
 ghost use Rattle.model.specs.Lists.{setAt};
 ghost use Rattle.stores.specs.Stores.{putAt};
+ghost use Rattle.text.specs.Decimal.{decimal};
 ghost use Rattle.text_crew.specs.Format.{digitsFor};
 ghost use Rattle.listing.specs.Listing.{field};
 ghost use Rattle.listing.specs.Words.{Limited, wordsLine, standingLine, wordsLines};
@@ -18,6 +19,14 @@ use text::put_bytes;
 use text::put_decimal;
 use text::put_hexadecimal;
 use text::put_hexadecimal_128;
+
+// A decimal, where there is place for any.
+pub fn put_number(out: &mut [u8], at: usize, v: u64) -> usize
+    requires { ⌜ at + 20 ≤ length (now out) ⌝ }
+    ensures { λ r. ⌜ (r ≡ at + length (decimal v)) × (now (out .exit) ≡ putAt (now (out .entry)) at (decimal v)) × (r ≤ at + 20) ⌝ }
+{
+    put_decimal(out, at, v)
+}
 
 // How many hexadecimal digits a set of items below `size` has.
 fn digits(size: u64) -> usize
@@ -58,7 +67,7 @@ fn put_line(rec: &[u64], out: &mut [u8], at: usize, k: usize) -> usize
     requires { ⌜ Limited (now rec) × (k < 128) × (at + 217 ≤ length (now out)) ⌝ }
     ensures { λ r. ⌜ (r ≡ at + length (wordsLine (now (rec .entry)) k)) × (now (out .exit) ≡ putAt (now (out .entry)) at (wordsLine (now (rec .entry)) k)) ⌝ }
 {
-    let set = put_decimal(out, at, k as u64);
+    let set = put_number(out, at, k as u64);
     let permissions = put_set256(rec, SETS + 4 * k, rec[1], out, set);
     let members = put_set256(rec, PERMISSIONS + 4 * k, rec[1], out, permissions);
     let juniors = put_set128(rec, MEMBERS + 2 * k, rec[0], out, members);

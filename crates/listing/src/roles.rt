@@ -8,18 +8,18 @@ ghost use Rattle.stores.specs.Stores.{putAt};
 ghost use Rattle.listing.specs.Listing.{headLine, refusedText, rolesText};
 ghost use Rattle.listing.specs.Words.{mostBytes};
 use crate::lines::put_lines;
+use crate::lines::put_number;
 use panel::panel_quality;
 use tables::STANDING;
 use tables::load128;
 use text::put_bytes;
-use text::put_decimal;
 
 pub fn put_refused(out: &mut [u8], code: u64) -> usize
     requires { ⌜ mostBytes ≤ length (now out) ⌝ }
     ensures { λ r. ⌜ (r ≡ length (refusedText code)) × (now (out .exit) ≡ putAt (now (out .entry)) 0 (refusedText code)) × (r ≤ mostBytes) ⌝ }
 {
     let number = put_bytes(out, 0, b"refused,");
-    let end = put_decimal(out, number, code);
+    let end = put_number(out, number, code);
     put_bytes(out, end, b"\n")
 }
 
@@ -29,9 +29,9 @@ fn put_head(out: &mut [u8], count: u64, quality: u64) -> usize
     ensures { λ r. ⌜ (r ≡ length (headLine count quality)) × (now (out .exit) ≡ putAt (now (out .entry)) 0 (headLine count quality)) × (r ≤ 48) ⌝ }
 {
     let number = put_bytes(out, 0, b"roles,");
-    let between = put_decimal(out, number, count);
+    let between = put_number(out, number, count);
     let weight = put_bytes(out, between, b",");
-    let end = put_decimal(out, weight, quality);
+    let end = put_number(out, weight, quality);
     put_bytes(out, end, b"\n")
 }
 

@@ -3,20 +3,8 @@ use libc::STDOUT_FILENO;
 
 const MOST_TEXTS: u64 = 1000;
 
-// A byte more than the longest crew text, as the lister reads.
-const SPACE: usize = 16385;
-
 fn digit(n: u64) -> u8 {
     (n % 10) as u8 + b'0'
-}
-
-// The listing of what the file holds.
-fn show(file: i32) {
-    let mut text = [0u8; SPACE];
-    let mut out = [0u8; listing::MOST];
-    let n = io::read_full(file, &mut text);
-    let end = listing::list_roles(&text[..n], &mut out);
-    io::write_all(STDOUT_FILENO, &out[..end]);
 }
 
 // A line with the file's name, and then its listing. Whether there is such a file.
@@ -32,7 +20,7 @@ fn run(number: u64) -> bool {
         return false;
     }
     io::write_all(STDOUT_FILENO, &name);
-    show(file);
+    listing::list_stream(file, STDOUT_FILENO);
     libc::close(file);
     true
 }

@@ -1,10 +1,11 @@
 // The set library at the borders of its words: for each width, and each i there, the sets {i} and {0, .., i} and what the library says of them.
 ghost use mathlib.Core.Path.{_≡_};
 ghost use mathlib.Core.Bool.{true};
-use libc::STDOUT_FILENO;
 use sets::Item;
 use sets_128::Set128;
 use sets_256::Set256;
+use test_support::number;
+use test_support::text;
 
 // What a line says of a set and of one that may hold it.
 struct Row {
@@ -17,33 +18,25 @@ struct Row {
     less: bool,
 }
 
-fn text(bytes: &[u8]) {
-    io::write_all(STDOUT_FILENO, bytes);
-}
-
-fn number(n: usize) {
-    text(b" ");
-    io::print_decimal(STDOUT_FILENO, n as u64);
-}
-
 fn flag(f: bool) {
     if f { number(1) } else { number(0) }
 }
 
 fn item(i: Item) {
     match i {
-        Item::At(n) => number(n),
+        Item::At(n) => number(n as u64),
         Item::Nothing => text(b" -"),
     }
 }
 
 fn print(width: u64, i: u8, row: Row) {
-    io::print_decimal(STDOUT_FILENO, width);
-    number(i as usize);
+    text(b"width");
+    number(width);
+    number(i as u64);
     text(b":");
     flag(row.contains);
-    number(row.count);
-    number(row.other_count);
+    number(row.count as u64);
+    number(row.other_count as u64);
     let lowest = row.lowest;
     item(lowest);
     let highest = row.other_highest;

@@ -1,50 +1,14 @@
 // Reads cases from standard input and prints the reader's answer to each, with a digest of the words that it was lent.
 // A case is a line with the lengths of its text and of its buffer, each in four hexadecimal digits, as `001f,0200`, and then the text.
 ghost use mathlib.Core.Path.{_≡_};
-ghost use Prim.Native.Nat.{_+_, _≤_};
 ghost use lib.ListN.{length};
 use libc::STDIN_FILENO;
-use libc::STDOUT_FILENO;
-use sets_256::Set256;
+use test_support::case;
 use text::Field;
 use text::hexadecimal_set;
-use text::put_bytes;
-use text::put_decimal;
-use text::put_hexadecimal;
 use text::read_hexadecimal;
-use text_crew::CrewRead;
 
 const MOST_WORDS: usize = 600;
-
-// From the first word on: 33 times what was before, and the word.
-fn digest(words: &[u64]) -> u64 {
-    let mut h = 5381u64;
-    let mut i = 0;
-    while i < words.len() {
-        h = std::num::wrapping_add_u64(h << 5, h) ^ words[i];
-        i += 1;
-    }
-    h
-}
-
-// A decimal and a comma; the place after them.
-fn put_field(line: &mut [u8], at: usize, v: u64) -> usize
-    requires { ⌜ at + 21 ≤ length (now line) ⌝ }
-    ensures { λ r. ⌜ r ≤ at + 21 ⌝ }
-{
-    let next = put_decimal(line, at, v);
-    put_bytes(line, next, b",")
-}
-
-fn show(r: CrewRead, h: u64) {
-    let mut line = [0u8; 96];
-    let n = put_field(&mut line, 0, r.code);
-    let m = put_field(&mut line, n, r.n);
-    let digits = put_field(&mut line, m, r.m);
-    let last = put_hexadecimal(&mut line, digits, Set256::from_words([h, 0, 0, 0]), 16);
-    let end = put_bytes(&mut line, last, b"\n");
-    io::write_all(STDOUT_FILENO, &line[..end]);
-}
 
 fn number_at(input: &[u8], at: usize) -> usize {
     let Field::Ends(_) = read_hexadecimal(input, at, 4) else {
@@ -55,7 +19,7 @@ fn number_at(input: &[u8], at: usize) -> usize {
 
 fn run(text: &[u8], words: &mut [u64]) {
     let r = text_crew::read_crew(text, words);
-    show(r, digest(words));
+    case(b"read", &[0u64; 0], &[r.code, r.n, r.m], words);
 }
 
 // Words that show what was written to them.

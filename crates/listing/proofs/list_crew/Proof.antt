@@ -1,14 +1,17 @@
 -- Mining refuses with 4 alone; what it accepts is settled and listed.
 -- Assumes nothing.
--- Mining refuses with 4 alone; what it accepts is settled and listed.
 use borrow.Author.Needs.{needs}
 use Prim.Native.Nat.{ℕ}
 use native.Mathlib.Omega.{arith}
-use lib.ListN.{length-replicate}
+use lib.ListN.{length, replicate, length-replicate}
+use mathlib.Core.Path.{_≡_}
 use Rattle.model.specs.Record.{recordLength}
 use Rattle.listing.proofs.Read.{crew-refused, crew-sound, settled-sound, settled-listed, listed-put}
 use Rattle.listing.proofs.list_crew.Statement.{statement}
 use Rattle.listing.proofs.list_crew.Tie as tie
+
+zeros : length {A = ℕ} (replicate recordLength 0) ≡ recordLength
+zeros = length-replicate {A = ℕ} recordLength 0
 
 slice-aggregate-panel-mine : tie.Need-slice-aggregate-panel-mine
 slice-aggregate-panel-mine c = search needs
@@ -24,28 +27,46 @@ same-length c = search needs
 
 returns : tie.Need-returns
 returns c =
-    listed-put _ _ _ _ _ (crew-refused _ _ _ _ (length-replicate {A = ℕ} recordLength 0) (c .before .before .before .before .before .before .before .before .before .before .before .pre .0) (c .before .before .before .before .before .before .before .before .before .before .before .pre .1) (c .before .before .before .before .before .before .before .before .before .before .before .pre .2) _ _ (c .before .before .before .before .before .before .before .panel-mine .ensures .0) (c .before .before .before .before .if1 .taken)) (c .before .before .put-refused .ensures)
+    let at-if1 = c .before .before .before .before in
+    let at-panel-mine = at-if1 .before .before .before in
+    let p = at-panel-mine .before .before .before .before .pre in
+    listed-put _ _ _ _ _
+    (crew-refused _ _ _ _ zeros (p .0) (p .1) (p .2) _ _ (at-panel-mine .panel-mine .ensures .0) (at-if1 .if1 .taken))
+    (c .before .before .put-refused .ensures)
 
 slice-aggregate-settle : tie.Need-slice-aggregate-settle
 slice-aggregate-settle c = search needs
 
 settle-requires : tie.Need-settle-requires
 settle-requires c κs =
-    crew-sound _ _ _ _ (length-replicate {A = ℕ} recordLength 0) (c .before .before .before .before .before .before .before .before .pre .0) (c .before .before .before .before .before .before .before .before .pre .1) (c .before .before .before .before .before .before .before .before .pre .2) _ _ (c .before .before .before .before .panel-mine .ensures .0) (c .before .if1 .left)
+    let at-panel-mine = c .before .before .before .before in
+    let p = at-panel-mine .before .before .before .before .pre in
+    crew-sound _ _ _ _ zeros (p .0) (p .1) (p .2) _ _ (at-panel-mine .panel-mine .ensures .0) (c .before .if1 .left)
 
 slice-aggregate-put-roles : tie.Need-slice-aggregate-put-roles
 slice-aggregate-put-roles c = search needs
 
 put-roles-requires : tie.Need-put-roles-requires
 put-roles-requires c κs =
-    (settled-sound _ _ _ _ (length-replicate {A = ℕ} recordLength 0) (c .before .before .before .before .before .before .before .before .before .before .before .before .pre .0) (c .before .before .before .before .before .before .before .before .before .before .before .before .pre .1) (c .before .before .before .before .before .before .before .before .before .before .before .before .pre .2) _ _ (c .before .before .before .before .before .before .before .before .panel-mine .ensures .0) _ (c .before .before .before .before .before .if1 .left) (c .before .before .before .settle .ensures), omega arith)
+    let at-settle = c .before .before .before in
+    let at-if1 = at-settle .before .before in
+    let at-panel-mine = at-if1 .before .before .before in
+    let p = at-panel-mine .before .before .before .before .pre in
+    let a = at-panel-mine .panel-mine .ensures .0 in
+    (settled-sound _ _ _ _ zeros (p .0) (p .1) (p .2) _ _ a _ (at-if1 .if1 .left) (at-settle .settle .ensures), omega arith)
 
 same-length-2 : tie.Need-same-length-2
 same-length-2 c = search needs
 
 returns-2 : tie.Need-returns-2
 returns-2 c =
-    listed-put _ _ _ _ _ (settled-listed _ _ _ _ (length-replicate {A = ℕ} recordLength 0) (c .before .before .before .before .before .before .before .before .before .before .before .before .before .before .before .pre .0) (c .before .before .before .before .before .before .before .before .before .before .before .before .before .before .before .pre .1) (c .before .before .before .before .before .before .before .before .before .before .before .before .before .before .before .pre .2) _ _ (c .before .before .before .before .before .before .before .before .before .before .before .panel-mine .ensures .0) _ (c .before .before .before .before .before .before .before .before .if1 .left) (c .before .before .before .before .before .before .settle .ensures)) (c .before .before .put-roles .ensures)
+    let at-settle = c .before .before .before .before .before .before in
+    let at-if1 = at-settle .before .before in
+    let at-panel-mine = at-if1 .before .before .before in
+    let p = at-panel-mine .before .before .before .before .pre in
+    listed-put _ _ _ _ _
+    (settled-listed _ _ _ _ zeros (p .0) (p .1) (p .2) _ _ (at-panel-mine .panel-mine .ensures .0) _ (at-if1 .if1 .left) (at-settle .settle .ensures))
+    (c .before .before .put-roles .ensures)
 
 pub list-crew-spec : {M : Type 1} → statement M
 list-crew-spec =

@@ -1,6 +1,5 @@
 -- The reader's refusal, or the listing of what it read.
 -- Assumes nothing.
--- The reader's refusal, or the listing of what it read.
 use borrow.Author.Needs.{needs}
 use mathlib.Core.Path.{sym}
 use native.Mathlib.Omega.{arith}
@@ -19,7 +18,9 @@ put-refused-requires c κs = search needs
 
 returns : tie.Need-returns
 returns c =
-    let w = listed-put _ _ _ _ _ (text-refused _ _ _ (c .before .before .before .before .before .panel-read-crew .ensures .0) (c .before .before .if1 .taken)) (c .put-refused .ensures) in
+    let at-panel-read-crew = c .before .before .before .before .before in
+    let w =
+    listed-put _ _ _ _ _ (text-refused _ _ _ (at-panel-read-crew .panel-read-crew .ensures .0) (c .before .before .if1 .taken)) (c .put-refused .ensures) in
     (w .0, w .1, omega arith)
 
 mul-rows : tie.Need-mul-rows
@@ -29,15 +30,21 @@ array-share-prefix-rows : tie.Need-array-share-prefix-rows
 array-share-prefix-rows c = let u = text-users _ _ _ (c .before .before .before .panel-read-crew .ensures .0) (c .if1 .left) in omega arith
 
 slice-aggregate-list-crew : tie.Need-slice-aggregate-list-crew
-slice-aggregate-list-crew c = sym (text-size _ _ _ (c .before .before .before .before .panel-read-crew .ensures .0) (c .before .if1 .left))
+slice-aggregate-list-crew c =
+    let at-panel-read-crew = c .before .before .before .before in
+    sym (text-size _ _ _ (at-panel-read-crew .panel-read-crew .ensures .0) (c .before .if1 .left))
 
 list-crew-requires : tie.Need-list-crew-requires
 list-crew-requires c κs =
-    (text-limits _ _ _ (c .before .before .before .before .before .panel-read-crew .ensures .0) (c .before .before .if1 .left), text-size _ _ _ (c .before .before .before .before .before .panel-read-crew .ensures .0) (c .before .before .if1 .left), text-within _ _ _ (c .before .before .before .before .before .panel-read-crew .ensures .0) (c .before .before .if1 .left), omega arith)
+    let a = c .before .before .before .before .before .panel-read-crew .ensures .0 in
+    let z = c .before .before .if1 .left in
+    (text-limits _ _ _ a z, text-size _ _ _ a z, text-within _ _ _ a z, omega arith)
 
 returns-2 : tie.Need-returns-2
 returns-2 c =
-    let w = listed-put _ _ _ _ _ (text-listed _ _ _ (c .before .before .before .before .before .before .panel-read-crew .ensures .0) (c .before .before .before .if1 .left)) (c .list-crew .ensures) in
+    let at-if1 = c .before .before .before in
+    let at-panel-read-crew = at-if1 .before .before .before in
+    let w = listed-put _ _ _ _ _ (text-listed _ _ _ (at-panel-read-crew .panel-read-crew .ensures .0) (at-if1 .if1 .left)) (c .list-crew .ensures) in
     (w .0, w .1, omega arith)
 
 pub list-roles-spec : {M : Type 1} → statement M

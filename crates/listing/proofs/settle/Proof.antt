@@ -16,7 +16,9 @@ same-length c = search needs
 
 returns : tie.Need-returns
 returns c =
-    settle-is _ _ _ _ _ (c .before .before .before .before .before .before .before .before .before .pre) (c .before .before .before .before .before .before .panel-eliminate .ensures .0) (c .before .before .panel-review .ensures .0)
+    let at-panel-eliminate = c .before .before .before .before .before .before in
+    let start = at-panel-eliminate .before .before .before in
+    settle-is _ _ _ _ _ (start .pre) (at-panel-eliminate .panel-eliminate .ensures .0) (c .before .before .panel-review .ensures .0)
 
 pub settle-spec : {M : Type 1} → statement M
 settle-spec =

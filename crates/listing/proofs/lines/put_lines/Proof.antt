@@ -24,7 +24,8 @@ loop-holds c = (omega arith, refl, lines-none _ _ _)
 
 put-standing-requires : tie.Need-put-standing-requires Inv-loop μ-loop
 put-standing-requires c κs =
-    (c .before .before .before .before .before .before .pre .0, omega (arith, c .before .before .before .before .before .before .pre .0 .candidates), omega (arith, c .before .before .before .before .before .before .pre .0 .candidates, lines-most _ (c .before .before .loop .k) (c .before .before .before .before .before .before .pre .0)))
+    let b = c .before .before .before .before .before .before .pre .0 in
+    (b, omega (arith, b .candidates), omega (arith, b .candidates, lines-most _ (c .before .before .loop .k) b))
 
 add-k : tie.Need-add-k Inv-loop μ-loop
 add-k c = search needs
@@ -34,14 +35,16 @@ loop-less c = search needs
 
 loop-again : tie.Need-loop-again Inv-loop μ-loop
 loop-again c =
-    (omega arith, omega arith, lines-more _ _ _ _ _ _ _ _ (c .before .before .before .before .before .loop .inv .2) (c .before .before .put-standing .ensures))
+    let at-loop = c .before .before .before .before .before in
+    (omega arith, omega arith, lines-more _ _ _ _ _ _ _ _ (at-loop .loop .inv .2) (c .before .before .put-standing .ensures))
 
 same-length : tie.Need-same-length Inv-loop μ-loop
 same-length c = search needs
 
 returns : tie.Need-returns Inv-loop μ-loop
 returns c =
-    put-upto _ _ _ _ _ _ _ (let e : c .before .loop .k ≡ getD (c .before .before .before .before .before .args .rec .now) 2 0 = omega arith in e) (c .before .loop .inv .2)
+    let start = c .before .before .before .before .before in
+    put-upto _ _ _ _ _ _ _ (let e : c .before .loop .k ≡ getD (start .args .rec .now) 2 0 = omega arith in e) (c .before .loop .inv .2)
 
 pub put-lines-spec : {M : Type 1} → statement M
 put-lines-spec =

@@ -1,6 +1,5 @@
 -- A comma and the digits.
 -- Assumes nothing.
--- A comma and the digits.
 use borrow.Author.Needs.{needs}
 use native.Mathlib.Omega.{arith}
 use Rattle.listing.proofs.Puts.{digits-most, field-put}
@@ -28,7 +27,12 @@ same-length c = search needs
 
 returns : tie.Need-returns
 returns c =
-    field-put _ _ _ _ _ _ _ _ _ _ (c .before .before .before .digits .ensures) (c .before .before .before .before .load128 .ensures) 32 (c .before .before .before .before .before .before .before .before .before .before .before .before .before .pre .1) (c .before .before .before .before .before .before .before .before .put-bytes .ensures) (c .before .before .put-hexadecimal-128 .ensures)
+    let at-digits = c .before .before .before in
+    let at-load128 = at-digits .before in
+    let at-put-bytes = at-load128 .before .before .before .before in
+    let start = at-put-bytes .before .before .before .before .before in
+    field-put _ _ _ _ _ _ _ _ _ _ (at-digits .digits .ensures) (at-load128 .load128 .ensures) 32 (start .pre .1) (at-put-bytes .put-bytes .ensures)
+    (c .before .before .put-hexadecimal-128 .ensures)
 
 pub put-set128-spec : {M : Type 1} → statement M
 put-set128-spec =

@@ -1,6 +1,5 @@
 -- A comma and the digits.
 -- Assumes nothing.
--- A comma and the digits.
 use borrow.Author.Needs.{needs}
 use native.Mathlib.Omega.{arith}
 use Rattle.listing.proofs.Puts.{digits-most, field-put}
@@ -28,7 +27,12 @@ same-length c = search needs
 
 returns : tie.Need-returns
 returns c =
-    field-put _ _ _ _ _ _ _ _ _ _ (c .before .before .before .digits .ensures) (c .before .before .before .before .load256 .ensures) 64 (c .before .before .before .before .before .before .before .before .before .before .before .before .before .pre .1) (c .before .before .before .before .before .before .before .before .put-bytes .ensures) (c .before .before .put-hexadecimal .ensures)
+    let at-digits = c .before .before .before in
+    let at-load256 = at-digits .before in
+    let at-put-bytes = at-load256 .before .before .before .before in
+    let start = at-put-bytes .before .before .before .before .before in
+    field-put _ _ _ _ _ _ _ _ _ _ (at-digits .digits .ensures) (at-load256 .load256 .ensures) 64 (start .pre .1) (at-put-bytes .put-bytes .ensures)
+    (c .before .before .put-hexadecimal .ensures)
 
 pub put-set256-spec : {M : Type 1} → statement M
 put-set256-spec =

@@ -1,6 +1,5 @@
 -- The line of a role that stands, and nothing else.
 -- Assumes nothing.
--- The line of a role that stands, and nothing else.
 use borrow.Author.Needs.{needs}
 use Rattle.text_crew.proofs.Lines.{said-yes, said-no}
 use mathlib.Core.Path.{_∙_, ap}
@@ -17,7 +16,9 @@ contains-requires c κs = search needs
 
 returns : tie.Need-returns
 returns c =
-    absent-put _ _ _ _ (said-no (c .before .contains .ensures ∙ ap (λ s. has s (c .before .before .before .before .before .args .k)) (c .before .before .load128 .ensures)) (c .if1 .taken))
+    let start = c .before .before .before .before .before in
+    absent-put _ _ _ _
+    (said-no (c .before .contains .ensures ∙ ap (λ s. has s (start .args .k)) (c .before .before .load128 .ensures)) (c .if1 .taken))
 
 put-line-requires : tie.Need-put-line-requires
 put-line-requires c κs = search needs
@@ -27,7 +28,12 @@ same-length c = search needs
 
 returns-2 : tie.Need-returns-2
 returns-2 c =
-    standing-put _ _ _ _ _ _ (said-yes (c .before .before .before .before .before .contains .ensures ∙ ap (λ s. has s (c .before .before .before .before .before .before .before .before .before .args .k)) (c .before .before .before .before .before .before .load128 .ensures)) (c .before .before .before .before .if1 .left)) (c .before .before .put-line .ensures)
+    let at-if1 = c .before .before .before .before in
+    let at-contains = at-if1 .before in
+    let at-load128 = at-contains .before in
+    let start = at-load128 .before .before .before in
+    standing-put _ _ _ _ _ _ (said-yes (at-contains .contains .ensures ∙ ap (λ s. has s (start .args .k)) (at-load128 .load128 .ensures)) (at-if1 .if1 .left))
+    (c .before .before .put-line .ensures)
 
 pub put-standing-spec : {M : Type 1} → statement M
 put-standing-spec =

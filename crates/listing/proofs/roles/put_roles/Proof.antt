@@ -26,7 +26,15 @@ same-length c = search needs
 
 returns : tie.Need-returns
 returns c =
-    roles-put _ _ _ _ _ _ _ _ (c .before .before .before .before .before .before .before .before .before .before .before .before .before .pre .0) (count-is _ _ _ (c .before .before .before .before .before .before .before .before .count .ensures) (c .before .before .before .before .before .before .before .before .before .load128 .ensures)) (quality-is _ _ (c .before .before .before .before .before .before .before .before .before .before .before .before .before .pre .0) (c .before .before .before .before .before .before .before .before .before .before .panel-quality .ensures .0) (c .before .before .before .before .before .before .before .before .before .before .panel-quality .ensures .1)) (c .before .before .before .before .before .before .put-head .ensures) (c .before .before .put-lines .ensures)
+    let at-put-head = c .before .before .before .before .before .before in
+    let at-count = at-put-head .before .before in
+    let at-load128 = at-count .before in
+    let at-panel-quality = at-load128 .before in
+    let start = at-panel-quality .before .before .before in
+    roles-put _ _ _ _ _ _ _ _ (start .pre .0)
+    (count-is _ _ _ (at-count .count .ensures) (at-load128 .load128 .ensures))
+    (quality-is _ _ (start .pre .0) (at-panel-quality .panel-quality .ensures .0) (at-panel-quality .panel-quality .ensures .1))
+    (at-put-head .put-head .ensures) (c .before .before .put-lines .ensures)
 
 pub put-roles-spec : {M : Type 1} → statement M
 put-roles-spec =

@@ -11,7 +11,7 @@ use Rattle.text_crew.specs.Reader.{rowDigitsAt}
 use borrow.Author.Needs.{needs}
 use lib.Dec.{ltb}
 use lib.ListN.{length}
-use Rattle.sets.specs.Held.{set256}
+use Rattle.sets_256.specs.Held.{set256}
 use Rattle.sets.specs.Sets.{collect}
 use native.Mathlib.Omega.{arith}
 use Rattle.text_crew.proofs.rows.read_rows.Statement.{statement}
