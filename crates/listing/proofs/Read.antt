@@ -203,7 +203,7 @@ listed-forms n m rs =
     by-test t (λ y. _⊎_.inr (fresh n m rs, if-true t (rolesText (settled (fresh n m rs))) (refusedText 4) y))
     (λ y. _⊎_.inl (4, _⊎_.inr (_⊎_.inr (_⊎_.inl refl)), if-false t (rolesText (settled (fresh n m rs))) (refusedText 4) y))
 
--- a listing is the roles of a settled state, or a readRefused with 2, 3, 4 or 10
+-- a listing is the roles of a settled state, or a refusal with 2, 3, 4 or 10
 pub listing-forms : (text : List ℕ)
     → ((k : ℕ) × Printable k × (listing text ≡ refusedText k)) ⊎ ((st : State) × (listing text ≡ rolesText (settled st)))
 unfolding listing
