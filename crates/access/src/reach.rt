@@ -1,14 +1,14 @@
 ghost use mathlib.Core.Path.{_≡_};
 ghost use Prim.Native.Nat.{ℕ, _^_, _≤_, _<_};
 ghost use lib.ListN.{length};
-ghost use Rattle.sets.specs.Held.{set128};
+ghost use Rattle.sets_128.specs.Held.{set128};
 ghost use Rattle.sets.specs.Sets.{has, _∪_};
 ghost use Rattle.sets.specs.Truth.{if_then_else_};
 ghost use Rattle.model.specs.Hierarchy.{RoleRows};
 ghost use Rattle.model.specs.Chains.{link, reached};
 ghost use Rattle.tables.specs.Tables.{HoldsSets, table128Length};
 ghost use Rattle.access.specs.Reach.{Downward};
-use sets::Set128;
+use sets_128::Set128;
 use tables::load128;
 
 // The roles that those of s reach by zero or more links. A junior has a lower number, so one pass downward meets each role after all that

@@ -11,7 +11,7 @@ ghost use Rattle.columns.specs.Shuffles.{Loaded};
 use crate::one::column;
 use crate::one::in_first_word;
 use crate::transposition::transpose;
-use sets::Set128;
+use sets_128::Set128;
 use tables::store128;
 
 // The columns of a table of n sets: entry k holds the places whose set holds k. A few are gathered one by one, since a block has 64.

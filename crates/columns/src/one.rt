@@ -1,12 +1,12 @@
 ghost use mathlib.Core.Path.{_≡_};
 ghost use Prim.Native.Nat.{ℕ, _+_, _*_, _≤_, _<_, min};
 ghost use lib.ListN.{length, getD};
-ghost use Rattle.sets.specs.Held.{set128};
+ghost use Rattle.sets_128.specs.Held.{set128};
 ghost use Rattle.sets.specs.Sets.{has, collect};
 ghost use Rattle.model.specs.Lists.{setAt};
-use sets::Set128;
 use sets::place_of;
 use sets::with_bit;
+use sets_128::Set128;
 
 // The places below n whose set in the table holds k: a column of the table, read downward.
 pub fn column(table: &[u64], n: usize, k: usize) -> Set128

@@ -9,7 +9,7 @@ use native.Mathlib.Omega.{arith}
 use lib.Count.{ones}
 use lib.Dec.{ltb}
 use lib.ListN.{getD, take}
-use Rattle.sets.specs.Held.{set128}
+use Rattle.sets_128.specs.Held.{set128}
 use Rattle.sets.specs.Sets.{collect}
 use Rattle.sets.proofs.Truth.{ltb-iff}
 use Rattle.sets.proofs.Order.{collect-iff}

@@ -8,7 +8,7 @@ use native.Mathlib.Nat.{le-trans}
 use native.Mathlib.Omega.{arith}
 use lib.Count.{ones, ones-le}
 use lib.ListN.{length, getD, take, drop}
-use Rattle.sets.specs.Held.{set128}
+use Rattle.sets_128.specs.Held.{set128}
 use Rattle.sets.specs.Sets.{has, _∖_, single}
 use Rattle.sets.proofs.Truth.{not-So}
 use Rattle.sets.proofs.Items.{below-of-items, item-below}

@@ -10,7 +10,7 @@ use native.Mathlib.Numerals.{add-one}
 use native.Mathlib.Omega.{arith}
 use lib.Dec.{ltb}
 use Rattle.sets.specs.Truth.{isnt, if_then_else_}
-use Rattle.sets.specs.Held.{set128}
+use Rattle.sets_128.specs.Held.{set128}
 use Rattle.sets.specs.Sets.{has, _∖_, single}
 use Rattle.sets.proofs.Truth.{So-not, not-So, isnt-iff, if-true, if-false}
 use Rattle.sets.proofs.Items.{item-below}

@@ -5,7 +5,7 @@ use mathlib.Core.Bool.{So}
 use mathlib.Core.List.{List}
 use Prim.Native.Nat.{ℕ, _≤_}
 use lib.ListN.{take, drop}
-use Rattle.sets.specs.Held.{set128}
+use Rattle.sets_128.specs.Held.{set128}
 use Rattle.sets.specs.Sets.{has}
 use Rattle.model.specs.Coverage.{strikables}
 use Rattle.model.specs.Hierarchy.{Roles, candidateCount}

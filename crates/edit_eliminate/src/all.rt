@@ -20,7 +20,7 @@ use edit_test::fill_holders;
 use edit_trials::Progress;
 use quality::Counts;
 use quality::weigh;
-use sets::Set256;
+use sets_256::Set256;
 
 // Passes, from the strikable roles on, while the worklist is not empty and the pass before struck something. Each before the last strikes a role, so
 // c + 1 are enough.

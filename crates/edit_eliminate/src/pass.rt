@@ -2,7 +2,7 @@
 ghost use mathlib.Core.Path.{_≡_};
 ghost use Prim.Native.Nat.{_+_, _≤_};
 ghost use lib.ListN.{length, take};
-ghost use Rattle.sets.specs.Held.{set128};
+ghost use Rattle.sets_128.specs.Held.{set128};
 ghost use Rattle.model.specs.Coverage.{strikables};
 ghost use Rattle.model.specs.Machine.{pass};
 ghost use Rattle.model.specs.Record.{recordLength, stateOf};
@@ -19,7 +19,7 @@ use edit_order::SENIORS;
 use edit_order::WORK_LENGTH;
 use edit_order::fill_ranks;
 use edit_order::foremost;
-use sets::Set128;
+use sets_128::Set128;
 
 // Takes up each role of the worklist, the ranks in falling order.
 fn take_up_all(rec: &mut [u64], index: &[u64], work: &mut [u64], terms: Terms, turn: Turn) -> Turn

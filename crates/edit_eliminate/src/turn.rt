@@ -19,7 +19,7 @@ use edit_trials::if_struck;
 use quality::Tolerance;
 use quality::Weights;
 use quality::weigh;
-use sets::Set128;
+use sets_128::Set128;
 
 // The weights and the tolerance of an elimination.
 pub struct Terms {

@@ -3,11 +3,11 @@ ghost use mathlib.Core.Path.{_≡_};
 ghost use mathlib.Core.Logic.{_≢_};
 ghost use Prim.Native.Nat.{_≤_};
 ghost use lib.ListN.{length};
-ghost use Rattle.sets.specs.Held.{set128};
+ghost use Rattle.sets_128.specs.Held.{set128};
 ghost use Rattle.edit_order.specs.Ranking.{NextRole};
 ghost use Rattle.edit_order.specs.Work.{ranksLength};
 use hierarchy::lowest_item;
-use sets::Set128;
+use sets_128::Set128;
 use tables::load128;
 
 // The role that comes next, and its key.

@@ -2,7 +2,7 @@
 ghost use mathlib.Core.Bool.{So};
 ghost use mathlib.Core.Logic.{_↔_};
 ghost use Prim.Native.Nat.{ℕ};
-ghost use Rattle.sets.specs.Held.{set128};
+ghost use Rattle.sets_128.specs.Held.{set128};
 ghost use Rattle.sets.specs.Sets.{has, subset};
 ghost use Rattle.model.specs.Hierarchy.{Roles};
 ghost use Rattle.edit_order.specs.Work.{samplesStart, furtherStart, entry, HoldsAt, Unchanged, further, UpAndDown, Sampled, KnownSample};
@@ -11,7 +11,7 @@ use crate::layout::FURTHER;
 use crate::layout::HOLDING;
 use crate::layout::SAMPLES;
 use hierarchy::highest_item;
-use sets::Set128;
+use sets_128::Set128;
 use tables::load128;
 use tables::store128;
 

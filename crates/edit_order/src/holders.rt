@@ -3,12 +3,12 @@ ghost use mathlib.Core.Bool.{So};
 ghost use mathlib.Core.Logic.{_↔_, _⊎_};
 ghost use Prim.Native.Nat.{ℕ, _*_, _≤_};
 ghost use lib.ListN.{length};
-ghost use Rattle.sets.specs.Held.{set128};
+ghost use Rattle.sets_128.specs.Held.{set128};
 ghost use Rattle.sets.specs.Sets.{has};
 ghost use Rattle.hierarchy.specs.Tables.{Lowest};
 ghost use Rattle.edit_order.specs.Ranking.{LowestOf};
 use hierarchy::lowest_item;
-use sets::Set128;
+use sets_128::Set128;
 use tables::load128;
 
 // The set with the lowest item of s in it, where s has one.

@@ -2,7 +2,7 @@
 ghost use mathlib.Core.Path.{_≡_};
 ghost use Prim.Native.Nat.{ℕ, _^_, _<_};
 ghost use lib.ListN.{length, take, drop, getD};
-ghost use Rattle.sets.specs.Held.{set128};
+ghost use Rattle.sets_128.specs.Held.{set128};
 ghost use Rattle.model.specs.Hierarchy.{candidateCount};
 ghost use Rattle.model.specs.Machine.{redundancy};
 ghost use Rattle.model.specs.Record.{Limits};
@@ -12,7 +12,7 @@ ghost use Rattle.edit_order.specs.Work.{ranksStart, ranksLength, Prepare
 use crate::layout::RANKS;
 use crate::redundancy::redundancy;
 use hierarchy::lowest_item;
-use sets::Set128;
+use sets_128::Set128;
 use tables::load128;
 use tables::store128;
 

@@ -3,7 +3,7 @@ ghost use mathlib.Core.Path.{_≡_};
 ghost use Prim.Native.Nat.{_^_, _≤_, _<_};
 ghost use lib.Count.{ones};
 ghost use lib.Dec.{ltb};
-ghost use Rattle.sets.specs.Held.{set128};
+ghost use Rattle.sets_128.specs.Held.{set128};
 ghost use Rattle.sets.specs.Sets.{has, _∩_};
 ghost use Rattle.sets.specs.Truth.{if_then_else_};
 ghost use Rattle.model.specs.Hierarchy.{Roles, candidateCount};
@@ -19,7 +19,7 @@ use crate::layout::HOLDING;
 use crate::layout::SAMPLES;
 use crate::layout::UP;
 use hierarchy::highest_item;
-use sets::Set128;
+use sets_128::Set128;
 use tables::load128;
 
 fn smaller(a: usize, b: usize) -> usize

@@ -3,7 +3,7 @@ ghost use mathlib.Core.Path.{_≡_};
 ghost use Prim.Native.Nat.{ℕ, _+_, _*_, _≤_, _<_};
 ghost use lib.Count.{ones};
 ghost use lib.ListN.{length};
-ghost use Rattle.sets.specs.Held.{set128};
+ghost use Rattle.sets_128.specs.Held.{set128};
 ghost use Rattle.sets.specs.Sets.{_∪_, single};
 ghost use Rattle.model.specs.Hierarchy.{Roles, candidateCount};
 ghost use Rattle.model.specs.Indexes.{rolesOfUser};
@@ -13,7 +13,7 @@ ghost use Rattle.tables.specs.Tables.{table128Length};
 use hierarchy::lowest_item;
 use indexes::ROLES;
 use indexes::USERS;
-use sets::Set128;
+use sets_128::Set128;
 use tables::load128;
 use tables::store128;
 

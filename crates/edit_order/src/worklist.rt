@@ -2,7 +2,7 @@
 ghost use mathlib.Core.Path.{_≡_};
 ghost use Prim.Native.Nat.{_<_};
 ghost use lib.ListN.{length};
-ghost use Rattle.sets.specs.Held.{set128};
+ghost use Rattle.sets_128.specs.Held.{set128};
 ghost use Rattle.sets.specs.Sets.{_∪_, single};
 ghost use Rattle.sets.specs.Truth.{if_then_else_};
 ghost use Rattle.model.specs.Coverage.{strikables};
@@ -11,7 +11,7 @@ ghost use Rattle.model.specs.State.{State, rolesOf};
 ghost use Rattle.indexes.specs.Index.{indexLength, Indexed, AllHolders};
 use edit_test::removable;
 use hierarchy::lowest_item;
-use sets::Set128;
+use sets_128::Set128;
 use tables::STANDING;
 use tables::load128;
 

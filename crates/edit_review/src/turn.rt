@@ -31,8 +31,7 @@ pub fn try_restore(
     requires { ⌜ InStep (now rec) (now index) (now seniors) at ⌝ }
     requires { ⌜ So (weightsAllowed (weightsIn w)) ⌝ }
     requires { ⌜ k < getD (now rec) 2 0 ⌝ }
-    requires { ⌜ at .changed ≤ turnRoom ⌝ }
-    requires { ⌜ at .examined ≤ turnRoom ⌝ }
+    requires { ⌜ (at .changed ≤ turnRoom) × (at .examined ≤ turnRoom) ⌝ }
     requires { ⌜ (length (now rec) ≡ recordLength) × (length (now index) ≡ indexLength) × (length (now seniors) ≡ table128Length) ⌝ }
     ensures { λ r. ⌜ Stepped (tryRestore (rolesOf (stateOf (now (rec .entry)))) (weightsIn w) k) (now (rec .entry)) at (now (rec .exit)) (now (index .entry)) (now (seniors .exit)) r ⌝ }
 {

@@ -28,8 +28,7 @@ fn review_pass(
 ) -> Progress
     requires { ⌜ InStep (now rec) (now index) (now seniors) at ⌝ }
     requires { ⌜ So (weightsAllowed (weightsIn w)) ⌝ }
-    requires { ⌜ at .changed ≤ passRoom ⌝ }
-    requires { ⌜ at .examined ≤ passRoom ⌝ }
+    requires { ⌜ (at .changed ≤ passRoom) × (at .examined ≤ passRoom) ⌝ }
     requires { ⌜ (length (now rec) ≡ recordLength) × (length (now index) ≡ indexLength) × (length (now seniors) ≡ table128Length) ⌝ }
     ensures { λ r. ⌜ Stepped (reviewTo (rolesOf (stateOf (now (rec .entry)))) (weightsIn w) (getD (now (rec .entry)) 2 0)) (now (rec .entry)) at (now (rec .exit)) (now (index .entry)) (now (seniors .exit)) r ⌝ }
 {

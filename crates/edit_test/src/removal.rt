@@ -11,7 +11,7 @@ ghost use Rattle.model.specs.State.{State, rolesOf};
 ghost use Rattle.indexes.specs.Index.{indexLength, Indexed, HoldersFor};
 use crate::holders::fill_holders;
 use crate::walk::grants_covered;
-use sets::Set128;
+use sets_128::Set128;
 use tables::MEMBERS;
 use tables::PERMISSIONS;
 use tables::load128;

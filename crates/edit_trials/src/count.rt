@@ -1,11 +1,12 @@
 // Counts of one role, and counts corrected.
 ghost use mathlib.Core.Path.{_≡_};
-ghost use Rattle.sets.specs.Held.{set128, set256};
+ghost use Rattle.sets_128.specs.Held.{set128};
+ghost use Rattle.sets_256.specs.Held.{set256};
 ghost use Rattle.quality.specs.Numbers.{countsIn, Few};
 ghost use Rattle.edit_trials.specs.Trying.{roleCounts, Within, Corrected};
 use quality::Counts;
-use sets::Set128;
-use sets::Set256;
+use sets_128::Set128;
+use sets_256::Set256;
 
 // A role with this row: itself, its direct members and permissions, and a link to each junior and from each senior.
 pub fn role_counts(members: Set128, permissions: Set256, above: Set128, below: Set128) -> Counts

@@ -2,7 +2,7 @@
 ghost use mathlib.Core.Path.{_≡_};
 ghost use Prim.Native.Nat.{_^_, _<_};
 ghost use lib.ListN.{length, take, drop};
-ghost use Rattle.sets.specs.Held.{set128};
+ghost use Rattle.sets_128.specs.Held.{set128};
 ghost use Rattle.sets.specs.Sets.{_∪_, single};
 ghost use Rattle.model.specs.Hierarchy.{Roles, candidateCount, permissionSet};
 ghost use Rattle.model.specs.Record.{recordLength, setsStart, stateOf};
@@ -26,7 +26,7 @@ use indexes::LOWER;
 use indexes::ROLES;
 use indexes::USERS;
 use quality::Counts;
-use sets::Set128;
+use sets_128::Set128;
 use tables::PERMISSIONS;
 use tables::SETS;
 use tables::STANDING;

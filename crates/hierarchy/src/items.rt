@@ -1,9 +1,9 @@
 // The lowest and the highest item of a set that has one.
 ghost use mathlib.Core.Logic.{_≢_};
-ghost use Rattle.sets.specs.Held.{set128};
+ghost use Rattle.sets_128.specs.Held.{set128};
 ghost use Rattle.hierarchy.specs.Tables.{Lowest, Highest};
 use sets::Item;
-use sets::Set128;
+use sets_128::Set128;
 
 pub fn lowest_item(s: Set128) -> usize
     requires { ⌜ set128 s ≢ 0 ⌝ }

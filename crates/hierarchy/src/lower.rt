@@ -1,13 +1,14 @@
 ghost use mathlib.Core.Path.{_≡_};
 ghost use Prim.Native.Nat.{ℕ, _+_, _*_, _≤_, _<_};
 ghost use lib.ListN.{length};
-ghost use Rattle.sets.specs.Held.{set128, set256};
+ghost use Rattle.sets_128.specs.Held.{set128};
+ghost use Rattle.sets_256.specs.Held.{set256};
 ghost use Rattle.sets.specs.Sets.{subset, collect};
 ghost use Rattle.model.specs.Lists.{setAt};
 use columns::in_first_word;
-use sets::Set128;
-use sets::Set256;
 use sets::with_bit;
+use sets_128::Set128;
+use sets_256::Set256;
 use tables::load256;
 
 // The roles below k whose set lies within that of k. A proper subset has a lower number, so these are all the roles that can be junior to k. A

@@ -2,7 +2,8 @@
 ghost use mathlib.Core.Path.{_≡_};
 ghost use Prim.Native.Nat.{_*_, _^_, _<_};
 ghost use lib.ListN.{length};
-ghost use Rattle.sets.specs.Held.{set128, set256};
+ghost use Rattle.sets_128.specs.Held.{set128};
+ghost use Rattle.sets_256.specs.Held.{set256};
 ghost use Rattle.model.specs.Hierarchy.{Roles, candidateCount, permissionSet, authorisedUsers, immediateJuniors, directPermissions, directMembers};
 ghost use Rattle.model.specs.Indexes.{lower};
 ghost use Rattle.tables.specs.Tables.{HoldsSets, table128Length, table256Length};
@@ -10,8 +11,8 @@ ghost use Rattle.hierarchy.specs.Tables.{Numbered, Narrow, immediateSeni
 use crate::sieve::less128;
 use crate::sieve::less256;
 use crate::sieve::maximal_of;
-use sets::Set128;
-use sets::Set256;
+use sets_128::Set128;
+use sets_256::Set256;
 use tables::load128;
 use tables::load256;
 

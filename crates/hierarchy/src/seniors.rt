@@ -3,7 +3,7 @@ ghost use mathlib.Core.Path.{_≡_};
 ghost use Prim.Native.Nat.{_^_, _<_};
 ghost use lib.Dec.{eqb};
 ghost use lib.ListN.{length};
-ghost use Rattle.sets.specs.Held.{set128};
+ghost use Rattle.sets_128.specs.Held.{set128};
 ghost use Rattle.sets.specs.Sets.{has, _∩_, _∪_, single};
 ghost use Rattle.sets.specs.Truth.{_and_, if_then_else_};
 ghost use Rattle.model.specs.Hierarchy.{Roles, candidateCount};
@@ -11,7 +11,7 @@ ghost use Rattle.model.specs.Indexes.{lower};
 ghost use Rattle.tables.specs.Tables.{HoldsSets, table128Length};
 ghost use Rattle.hierarchy.specs.Tables.{Numbered, immediateSeniors};
 use crate::items::lowest_item;
-use sets::Set128;
+use sets_128::Set128;
 use tables::load128;
 
 // The set with i in it where k is below i, and none of the set is.

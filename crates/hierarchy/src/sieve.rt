@@ -2,15 +2,16 @@
 ghost use mathlib.Core.Path.{_≡_};
 ghost use Prim.Native.Nat.{_*_, _<_, _^_};
 ghost use lib.ListN.{length};
-ghost use Rattle.sets.specs.Held.{set128, set256};
+ghost use Rattle.sets_128.specs.Held.{set128};
+ghost use Rattle.sets_256.specs.Held.{set256};
 ghost use Rattle.model.specs.Hierarchy.{Roles, candidateCount};
 ghost use Rattle.model.specs.Indexes.{lower, maximal};
 ghost use Rattle.tables.specs.Tables.{HoldsSets, table128Length, table256Length};
 ghost use Rattle.hierarchy.specs.Tables.{Numbered, lessAll};
 use crate::items::highest_item;
 use crate::items::lowest_item;
-use sets::Set128;
-use sets::Set256;
+use sets_128::Set128;
+use sets_256::Set256;
 use tables::load128;
 use tables::load256;
 

@@ -3,7 +3,7 @@
 ghost use mathlib.Core.Path.{_≡_};
 ghost use Prim.Native.Nat.{_≤_};
 ghost use lib.ListN.{length};
-ghost use Rattle.sets.specs.Held.{set128};
+ghost use Rattle.sets_128.specs.Held.{set128};
 ghost use Rattle.model.specs.Hierarchy.{candidateCount, authorisedUsers};
 ghost use Rattle.model.specs.Indexes.{lower, rolesOfUser};
 ghost use Rattle.model.specs.State.{State, rolesOf};
@@ -12,7 +12,7 @@ ghost use Rattle.tables.specs.Tables.{HoldsSets, table128Length};
 ghost use Rattle.indexes.specs.Tables.{Owned, sharedBy};
 use crate::own::Own;
 use hierarchy::lowest_item;
-use sets::Set128;
+use sets_128::Set128;
 use tables::load128;
 use tables::store128;
 

@@ -6,7 +6,7 @@ ghost use mathlib.Core.Path.{_≡_};
 ghost use mathlib.Core.Logic.{_≢_};
 ghost use Prim.Native.Nat.{ℕ, _+_, _*_, _≤_};
 ghost use lib.ListN.{length, getD};
-ghost use Rattle.sets.specs.Held.{set256};
+ghost use Rattle.sets_256.specs.Held.{set256};
 ghost use Rattle.model.specs.Candidates.{place, addRow, candidates, Listed, Growing, Table};
 ghost use Rattle.model.specs.Lists.{rowsAt};
 ghost use Rattle.tables.specs.Search.{Between};
@@ -14,7 +14,7 @@ ghost use Rattle.mining.specs.Mining.{Framed, Admits, Seen, Adds, Mines}
 ghost use Rattle.tables.specs.Tables.{table256Length};
 use seen::is_known;
 use seen::remember;
-use sets::Set256;
+use sets_256::Set256;
 use tables::Found;
 use tables::insert;
 use tables::load256;

@@ -3,10 +3,10 @@
 ghost use mathlib.Core.Path.{_≡_};
 ghost use Prim.Native.Nat.{_<_};
 ghost use lib.ListN.{length};
-ghost use Rattle.sets.specs.Held.{set256};
+ghost use Rattle.sets_256.specs.Held.{set256};
 ghost use Rattle.mining.specs.Mining.{Known, Remembered};
 ghost use Rattle.tables.specs.Tables.{table256Length};
-use sets::Set256;
+use sets_256::Set256;
 use tables::load256;
 use tables::store256;
 

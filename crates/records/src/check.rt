@@ -19,7 +19,7 @@ use crate::begin::mine_record;
 use crate::cover::all_covered;
 use indexes::INDEX_LENGTH;
 use mining::Mined;
-use sets::Set128;
+use sets_128::Set128;
 use tables::CREW;
 use tables::LENGTH;
 use tables::STANDING;

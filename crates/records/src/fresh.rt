@@ -11,7 +11,7 @@ ghost use Rattle.records.specs.Records.{OnlyCandidates};
 use crate::begin::begin_record;
 use crate::begin::complete_record;
 use indexes::INDEX_LENGTH;
-use sets::Set128;
+use sets_128::Set128;
 use tables::copy;
 
 // Writes the record of a crew list, with all its candidates standing. It is built in `image`, which has the c candidates and nothing else yet.

@@ -2,7 +2,7 @@
 ghost use mathlib.Core.Path.{_≡_};
 ghost use Prim.Native.Nat.{ℕ, _≤_, _<_};
 ghost use lib.ListN.{length};
-ghost use Rattle.sets.specs.Held.{set128};
+ghost use Rattle.sets_128.specs.Held.{set128};
 ghost use Rattle.sets.specs.Sets.{_∖_, single};
 ghost use Rattle.model.specs.Hierarchy.{candidateCount, RoleRows};
 ghost use Rattle.model.specs.Record.{recordLength};
@@ -15,7 +15,7 @@ use hierarchy::lowest_item;
 use hierarchy::members_of;
 use indexes::HOLDERS;
 use indexes::USERS;
-use sets::Set128;
+use sets_128::Set128;
 use tables::MEMBERS;
 use tables::load128;
 use tables::store128;

@@ -7,4 +7,3 @@ pub mod Compare
 pub mod Below
 pub mod Extremes
 pub mod Written
-pub mod Held

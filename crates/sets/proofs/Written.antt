@@ -26,9 +26,6 @@ use Rattle.sets.proofs.Order.{has-single, single-lt, ∪-zero, without-
 use Rattle.sets.proofs.Words.{Words, Wordwise, value-lt, word-lt, word-zero, word-value, value-words, has-shift, has-word, zip, value-zip, wordwise-∩, wordwise-∪, wordwise-∖, wordwise-xor, ∖-zero, masked, and-turned}
 use Rattle.sets.proofs.Compare.{join, join-none, test-same, xor-none, ∖-none, lessFrom, value-less, less-none, count, value-count}
 use Rattle.sets.proofs.Extremes.{lowestFrom, highestFrom, value-lowest, value-highest}
-use Rattle.sets.specs.declared.set128.Set128.{Set128}
-use Rattle.sets.specs.declared.set256.Set256.{Set256}
-use Rattle.sets.specs.Held.{set128, set256}
 
 -- a list of n words
 abbrev pub Arr : ℕ → List ℕ → Type 0
@@ -257,13 +254,3 @@ subset-test t a b d e f = e ∙ ap (λ (x : ℕ). eqb x 0) f ∙ test-same (a �
 pub proper-test : (s t : Bool) (a b : ℕ) → s ≡ subset a b → t ≡ eqb a b → (s && not t) ≡ properSubset a b
 unfolding properSubset
 proper-test s t a b e f = rw (e, f) (but-not (subset a b) (eqb a b))
-
--- ---- a struct's set is below its width: `search (words, held128)` proves it of a parameter or of a call's result
-
-pub held128 : (s : Set128) → Arr 2 (s .words) → set128 s < 2 ^ 128
-unfolding set128
-held128 s a = arr-lt 2 (s .words) a
-
-pub held256 : (s : Set256) → Arr 4 (s .words) → set256 s < 2 ^ 256
-unfolding set256
-held256 s a = arr-lt 4 (s .words) a

@@ -2,4 +2,3 @@ pub mod Truth
 pub mod Sets
 pub mod Words
 pub mod Extremes
-pub mod Held

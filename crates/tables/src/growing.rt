@@ -1,13 +1,13 @@
 // A growing table of sets: searched, and a set put at its place.
 ghost use Prim.Native.Nat.{_+_, _*_, _≤_};
 ghost use lib.ListN.{length};
-ghost use Rattle.sets.specs.Held.{set256};
+ghost use Rattle.sets_256.specs.Held.{set256};
 ghost use Rattle.model.specs.Candidates.{Growing};
 ghost use Rattle.model.specs.Lists.{rowsAt};
 ghost use Rattle.tables.specs.Search.{Finds, Inserts};
 use crate::load256;
 use crate::store256;
-use sets::Set256;
+use sets_256::Set256;
 
 // The place of a set in a table, or the place where it belongs.
 pub enum Found {

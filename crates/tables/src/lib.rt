@@ -8,7 +8,8 @@ ghost use mathlib.Core.Path.{_≡_};
 ghost use Prim.Native.Nat.{_+_, _≤_};
 ghost use lib.Dec.{eqb};
 ghost use lib.ListN.{length, getD};
-ghost use Rattle.sets.specs.Held.{set128, set256};
+ghost use Rattle.sets_128.specs.Held.{set128};
+ghost use Rattle.sets_256.specs.Held.{set256};
 ghost use Rattle.sets.specs.Truth.{all};
 ghost use Rattle.model.specs.Lists.{setAt};
 ghost use Rattle.stores.specs.Stores.{putAt};
@@ -27,8 +28,8 @@ pub use limits::crew_refusal;
 pub use limits::limits_kept;
 pub use limits::limits_refusal;
 pub use limits::rows_within;
-use sets::Set128;
-use sets::Set256;
+use sets_128::Set128;
+use sets_256::Set256;
 
 pub fn load256(ws: &[u64], at: usize) -> Set256
     requires { ⌜ at + 4 ≤ length (now ws) ⌝ }

@@ -8,7 +8,7 @@ ghost use Rattle.model.specs.Refusals.{limitsRefusal, crewRefusal};
 use crate::load256;
 use refusals::REFUSED_CREW;
 use refusals::REFUSED_LIMITS;
-use sets::Set256;
+use sets_256::Set256;
 
 // Whether the numbers of users and of permissions are from 1 to 128 and from 1 to 256.
 pub fn limits_kept(n: u64, m: u64) -> bool

@@ -3,8 +3,8 @@ ghost use mathlib.Core.Path.{_≡_};
 ghost use mathlib.Core.Bool.{true};
 use libc::STDOUT_FILENO;
 use sets::Item;
-use sets::Set128;
-use sets::Set256;
+use sets_128::Set128;
+use sets_256::Set256;
 
 // What a line says of a set and of one that may hold it.
 struct Row {

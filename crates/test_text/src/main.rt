@@ -5,7 +5,7 @@ ghost use Prim.Native.Nat.{_+_, _≤_};
 ghost use lib.ListN.{length};
 use libc::STDIN_FILENO;
 use libc::STDOUT_FILENO;
-use sets::Set256;
+use sets_256::Set256;
 use text::Field;
 use text::hexadecimal_set;
 use text::put_bytes;

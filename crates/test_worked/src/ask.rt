@@ -7,8 +7,8 @@ use crate::show::field;
 use crate::show::text;
 use panel::panel_may;
 use panel::panel_quality;
-use sets::Set256;
 use sets::place_of;
+use sets_256::Set256;
 
 pub fn weighed(rec: &[u64], w1: u64, w2: u64, w3: u64, w4: u64) {
     text(b"quality");

@@ -7,7 +7,7 @@ use crate::show::field;
 use crate::show::text;
 use panel::panel_may;
 use panel::panel_quality;
-use sets::Set128;
+use sets_128::Set128;
 
 // The answers of both calls.
 pub fn both(rec: &[u64]) {

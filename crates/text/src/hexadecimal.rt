@@ -3,14 +3,15 @@ ghost use mathlib.Core.Path.{_≡_};
 ghost use mathlib.Core.Bool.{So};
 ghost use Prim.Native.Nat.{_+_, _-_, _≤_};
 ghost use lib.ListN.{length};
-ghost use Rattle.sets.specs.Held.{set128, set256};
+ghost use Rattle.sets_128.specs.Held.{set128};
+ghost use Rattle.sets_256.specs.Held.{set256};
 ghost use Rattle.text.specs.Hexadecimal.{hexadecimal, hexadecimalAt, hexadecimalField, hexadecimalValue};
 ghost use Rattle.stores.specs.Stores.{putAt};
 use crate::digit::digit_at;
 use crate::digit::digit_byte;
 use crate::field::Field;
-use sets::Set128;
-use sets::Set256;
+use sets_128::Set128;
+use sets_256::Set256;
 
 // Whether d digits stand from place `at` on.
 fn has_digits(text: &[u8], at: usize, d: usize) -> bool

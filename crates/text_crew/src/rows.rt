@@ -5,7 +5,7 @@ ghost use mathlib.Core.List.{[]};
 ghost use Rattle.text_crew.specs.Reader.{RowsLaid, laid, rowsEnd, rowsTo};
 use crate::row::Row;
 use crate::row::read_row;
-use sets::Set256;
+use sets_256::Set256;
 use tables::store256;
 use text::hexadecimal_set;
 

@@ -3,7 +3,7 @@
 use Prim.Native.Nat.{_-_}
 use borrow.Author.Needs.{needs}
 use mathlib.Core.Path.{subst}
-use Rattle.sets.specs.Held.{set256}
+use Rattle.sets_256.specs.Held.{set256}
 use Rattle.model.specs.Lists.{rowsAt}
 use Rattle.mining.specs.Mining.{Framed, Seen, Known, Adds}
 use Rattle.mining.proofs.Meeting.{Walked, walked-none}

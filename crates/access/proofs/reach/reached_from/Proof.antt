@@ -3,7 +3,7 @@
 use mathlib.Core.Path.{_≡_}
 use Prim.Native.Nat.{suc, _-_, _≤_}
 use native.Mathlib.Omega.{arith}
-use Rattle.sets.specs.Held.{set128}
+use Rattle.sets_128.specs.Held.{set128}
 use Rattle.access.proofs.Following.{Following, following-none, following-more, following-all}
 use borrow.Author.Needs.{needs}
 use Rattle.access.proofs.reach.reached_from.Statement.{statement}

@@ -4,7 +4,7 @@ use mathlib.Core.Path.{_≡_}
 use mathlib.Core.Bool.{false}
 use Prim.Native.Nat.{_-_, _*_, _≤_}
 use native.Mathlib.Omega.{arith}
-use Rattle.sets.specs.Held.{set128}
+use Rattle.sets_128.specs.Held.{set128}
 use Rattle.sets.specs.Sets.{has}
 use Rattle.sets.specs.Truth.{_and_, any}
 use Rattle.model.specs.Lists.{setAt}

@@ -7,9 +7,10 @@ use native.Mathlib.Nat.{add-zero}
 use native.Mathlib.Omega.{arith}
 use Prim.Native.Nat.{ℕ, _+_, _-_, _^_, _≤_, _<_}
 use lib.ListN.{length, getD}
-use Rattle.sets.specs.Held.{set128}
+use Rattle.sets_128.specs.Held.{set128}
 use Rattle.sets.specs.Words.{value}
-use Rattle.sets.proofs.Written.{words, held128}
+use Rattle.sets.proofs.Written.{words}
+use Rattle.sets_128.proofs.Held.{held128}
 use Rattle.tables.specs.Tables.{Filled}
 use Rattle.tables.proofs.Tables.{filled-more}
 use Rattle.columns.proofs.all.store_pairs.Statement.{statement}

@@ -5,7 +5,7 @@ use mathlib.Core.Path.{_≡_, refl, sym, _∙_}
 use mathlib.Core.Logic.{_≢_}
 use native.Mathlib.Omega.{arith}
 use lib.ListN.{length}
-use Rattle.sets.specs.Held.{set128}
+use Rattle.sets_128.specs.Held.{set128}
 use Rattle.sets.proofs.Truth.{So-not, eqb-iff}
 use Rattle.model.specs.Record.{recordLength}
 use Rattle.edit_order.specs.Work.{workLength}

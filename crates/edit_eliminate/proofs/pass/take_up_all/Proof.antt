@@ -6,7 +6,7 @@ use native.Mathlib.Omega.{arith}
 use lib.Count.{ones}
 use mathlib.Core.List.{_++_}
 use lib.ListN.{length, drop}
-use Rattle.sets.specs.Held.{set128}
+use Rattle.sets_128.specs.Held.{set128}
 use Rattle.hierarchy.proofs.Sieving.{fewer, not-empty, is-empty}
 use Rattle.model.specs.Record.{recordLength}
 use Rattle.stores.proofs.Stores.{part-back}

@@ -5,9 +5,10 @@ use mathlib.Core.Path.{_≡_}
 use native.Mathlib.Omega.{arith}
 use Prim.Native.Nat.{_-_, _*_, _^_, _≤_, _<_}
 use lib.ListN.{length}
-use Rattle.sets.specs.Held.{set128}
+use Rattle.sets_128.specs.Held.{set128}
 use Rattle.sets.specs.Sets.{_∪_, single}
-use Rattle.sets.proofs.Written.{words, held128}
+use Rattle.sets.proofs.Written.{words}
+use Rattle.sets_128.proofs.Held.{held128}
 use Rattle.model.specs.Lists.{setAt}
 use Rattle.tables.specs.Tables.{Filled}
 use Rattle.tables.proofs.Tables.{filled-none, filled-more}

@@ -6,8 +6,9 @@ use mathlib.Core.Path.{_≡_}
 use native.Mathlib.Omega.{arith}
 use lib.ListN.{length}
 use Rattle.edit_order.specs.Work.{workLength, samplesStart}
-use Rattle.sets.specs.Held.{set128}
-use Rattle.sets.proofs.Written.{words, held128}
+use Rattle.sets_128.specs.Held.{set128}
+use Rattle.sets.proofs.Written.{words}
+use Rattle.sets_128.proofs.Held.{held128}
 use Rattle.edit_order.proofs.Reaching.{first-found}
 use Rattle.edit_order.proofs.Work.{reached-same, left-alone, prepared}
 use Rattle.edit_order.proofs.fill.fill_order.Statement.{statement}

@@ -3,7 +3,7 @@
 use borrow.Author.Needs.{needs}
 use mathlib.Core.Path.{sym, _∙_}
 use native.Mathlib.Omega.{arith}
-use Rattle.sets.specs.Held.{set128}
+use Rattle.sets_128.specs.Held.{set128}
 use Rattle.sets.proofs.Truth.{So-not, eqb-iff}
 use Rattle.edit_order.proofs.Leading.{Sinking, sinking-start, sinking-more, sinking-out, sinking-found}
 use Rattle.edit_order.proofs.front.foremost.Statement.{statement}

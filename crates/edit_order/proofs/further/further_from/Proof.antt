@@ -3,7 +3,7 @@
 use borrow.Author.Needs.{needs}
 use native.Mathlib.Omega.{arith}
 use lib.Count.{ones}
-use Rattle.sets.specs.Held.{set128}
+use Rattle.sets_128.specs.Held.{set128}
 use Rattle.hierarchy.proofs.Sieving.{not-empty, is-empty}
 use Rattle.edit_order.proofs.Narrowing.{Narrowing, narrowing-start, narrowing-fewer, narrowing-more, narrowing-all}
 use Rattle.edit_order.proofs.further.further_from.Statement.{statement}

@@ -4,7 +4,7 @@ use borrow.Author.Needs.{needs}
 use mathlib.Core.Path.{_≡_}
 use native.Mathlib.Omega.{arith}
 use Prim.Native.Nat.{_-_, _≤_}
-use Rattle.sets.specs.Held.{set128}
+use Rattle.sets_128.specs.Held.{set128}
 use Rattle.edit_order.specs.Ranking.{LowestOf}
 use Rattle.edit_order.proofs.Reaching.{lowest-none, lowest-more}
 use Rattle.edit_order.proofs.holders.first_holders.Statement.{statement}

@@ -7,8 +7,9 @@ use Prim.Native.Nat.{_+_, _-_, _*_, _^_, _≤_, _<_}
 use native.Mathlib.Omega.{arith}
 use lib.Count.{ones}
 use lib.ListN.{length}
-use Rattle.sets.specs.Held.{set128}
-use Rattle.sets.proofs.Written.{words, held128}
+use Rattle.sets_128.specs.Held.{set128}
+use Rattle.sets.proofs.Written.{words}
+use Rattle.sets_128.proofs.Held.{held128}
 use Rattle.hierarchy.proofs.Sieving.{fewer, not-empty, is-empty}
 use Rattle.edit_order.specs.Work.{workLength, ranksStart}
 use Rattle.edit_order.proofs.Sorting.{Cleared, cleared, Sorting, sorting-start, sorting-ready, sorting-more, sorting-all}

@@ -5,7 +5,7 @@ use mathlib.Core.Path.{_≡_, _∙_, ap}
 use Prim.Native.Nat.{ℕ}
 use native.Mathlib.Omega.{arith}
 use lib.Count.{ones}
-use Rattle.sets.specs.Held.{set128}
+use Rattle.sets_128.specs.Held.{set128}
 use Rattle.sets.specs.Sets.{_∩_}
 use Rattle.hierarchy.proofs.Sieving.{not-empty, is-empty}
 use Rattle.edit_order.specs.Work.{samplesStart, entry}

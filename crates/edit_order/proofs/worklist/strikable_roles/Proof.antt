@@ -2,7 +2,7 @@
 -- Assumes nothing.
 use borrow.Author.Needs.{needs}
 use lib.Count.{ones}
-use Rattle.sets.specs.Held.{set128}
+use Rattle.sets_128.specs.Held.{set128}
 use Rattle.hierarchy.proofs.Sieving.{fewer, not-empty, is-empty}
 use Rattle.edit_order.proofs.Gathering.{Gathering, gathering-start, gathering-more, gathering-all}
 use Rattle.edit_order.proofs.worklist.strikable_roles.Statement.{statement}

@@ -3,8 +3,9 @@
 use borrow.Author.Needs.{needs}
 use mathlib.Core.Path.{_∙_}
 use Prim.Native.Nat.{_^_, _<_}
-use Rattle.sets.specs.Held.{set128}
-use Rattle.sets.proofs.Written.{words, held128}
+use Rattle.sets_128.specs.Held.{set128}
+use Rattle.sets.proofs.Written.{words}
+use Rattle.sets_128.proofs.Held.{held128}
 use Rattle.edit_rows.proofs.Changing.{juniors-read, seniors-read}
 use Rattle.edit_rows.proofs.change.take_out.Statement.{statement}
 use Rattle.edit_rows.proofs.change.take_out.Tie as tie

@@ -2,9 +2,10 @@
 -- Assumes nothing.
 use borrow.Author.Needs.{needs}
 use Prim.Native.Nat.{_^_, _<_}
-use Rattle.sets.specs.Held.{set256}
+use Rattle.sets_256.specs.Held.{set256}
 use Rattle.sets.proofs.Items.{item-below}
-use Rattle.sets.proofs.Written.{words, held256}
+use Rattle.sets.proofs.Written.{words}
+use Rattle.sets_256.proofs.Held.{held256}
 use Rattle.edit_test.proofs.holders.fill_columns_for.Statement.{statement}
 use Rattle.edit_test.proofs.holders.fill_columns_for.Tie as tie
 

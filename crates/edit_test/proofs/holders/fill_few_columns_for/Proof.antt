@@ -6,9 +6,11 @@ use Prim.Native.Nat.{_*_, _^_, _<_}
 use native.Mathlib.Omega.{arith}
 use lib.Count.{ones}
 use lib.ListN.{length}
-use Rattle.sets.specs.Held.{set128, set256}
+use Rattle.sets_128.specs.Held.{set128}
+use Rattle.sets_256.specs.Held.{set256}
 use Rattle.sets.specs.Sets.{has, collect}
-use Rattle.sets.proofs.Written.{words, held128}
+use Rattle.sets.proofs.Written.{words}
+use Rattle.sets_128.proofs.Held.{held128}
 use Rattle.model.specs.Lists.{setAt}
 use Rattle.hierarchy.proofs.Sieving.{fewer, not-empty, is-empty}
 use Rattle.tables.proofs.Tables.{HeldBut, held-start, held-more}

@@ -5,8 +5,9 @@ use mathlib.Core.Path.{_≡_}
 use Prim.Native.Nat.{_^_, _<_}
 use native.Mathlib.Omega.{arith}
 use lib.ListN.{length}
-use Rattle.sets.specs.Held.{set256}
-use Rattle.sets.proofs.Written.{words, held256}
+use Rattle.sets_256.specs.Held.{set256}
+use Rattle.sets.proofs.Written.{words}
+use Rattle.sets_256.proofs.Held.{held256}
 use Rattle.edit_test.proofs.Holding.{index-kept, holders-read}
 use Rattle.edit_test.proofs.holders.fill_holders.Statement.{statement}
 use Rattle.edit_test.proofs.holders.fill_holders.Tie as tie

@@ -2,8 +2,9 @@
 use borrow.Author.Needs.{needs}
 use mathlib.Core.Path.{sym, _∙_}
 use Prim.Native.Nat.{_<_, _^_}
-use Rattle.sets.specs.Held.{set256}
-use Rattle.sets.proofs.Written.{words, held256}
+use Rattle.sets_256.specs.Held.{set256}
+use Rattle.sets.proofs.Written.{words}
+use Rattle.sets_256.proofs.Held.{held256}
 use Rattle.sets.proofs.Extremes.{lowest-iff, lowest-none-iff}
 use Rattle.edit_test.proofs.holders.lowest_permission.Statement.{statement}
 use Rattle.edit_test.proofs.holders.lowest_permission.Tie as tie

@@ -1,18 +1,19 @@
 -- The users not in `rest`, and the permissions of u not in `asked`, have no bare grant.
 -- Assumes nothing.
 use borrow.Author.Needs.{needs}
-use Rattle.sets.proofs.set128.Set128.intersection.Reads as set128-Set128-intersection-reads
-use Rattle.sets.proofs.set128.Set128.is_empty.Reads as set128-Set128-is-empty-reads
-use Rattle.sets.proofs.set128.Set128.remove.Reads as set128-Set128-remove-reads
-use Rattle.sets.proofs.set256.Set256.intersection.Reads as set256-Set256-intersection-reads
-use Rattle.sets.proofs.set256.Set256.is_empty.Reads as set256-Set256-is-empty-reads
-use Rattle.sets.proofs.set256.Set256.remove.Reads as set256-Set256-remove-reads
+use Rattle.sets_128.proofs.Set128.intersection.Reads as set128-Set128-intersection-reads
+use Rattle.sets_128.proofs.Set128.is_empty.Reads as set128-Set128-is-empty-reads
+use Rattle.sets_128.proofs.Set128.remove.Reads as set128-Set128-remove-reads
+use Rattle.sets_256.proofs.Set256.intersection.Reads as set256-Set256-intersection-reads
+use Rattle.sets_256.proofs.Set256.is_empty.Reads as set256-Set256-is-empty-reads
+use Rattle.sets_256.proofs.Set256.remove.Reads as set256-Set256-remove-reads
 use mathlib.Core.Path.{_≡_, refl, _∙_}
 use mathlib.Core.Bool.{false}
 use mathlib.Core.Logic.{⊎-elim}
 use native.Mathlib.Omega.{arith}
 use lib.Count.{ones}
-use Rattle.sets.specs.Held.{set128, set256}
+use Rattle.sets_128.specs.Held.{set128}
+use Rattle.sets_256.specs.Held.{set256}
 use Rattle.hierarchy.proofs.Sieving.{fewer, not-empty, is-empty}
 use Rattle.edit_test.proofs.Covering.{Walked, Asking, walk-start, walk-more, asking-start, asking-more, walk-bare, walk-through, went-through, was-left}
 use Rattle.edit_test.proofs.walk.grants_covered.Statement.{statement}

@@ -1,13 +1,16 @@
 -- Each part is a count of ones.
 -- Assumes nothing.
 use borrow.Author.Needs.{needs}
-use Rattle.sets.proofs.set128.Set128.count.Reads as set128-Set128-count-reads
-use Rattle.sets.proofs.set256.Set256.count.Reads as set256-Set256-count-reads
+use Rattle.sets_128.proofs.Set128.count.Reads as set128-Set128-count-reads
+use Rattle.sets_256.proofs.Set256.count.Reads as set256-Set256-count-reads
 use mathlib.Core.Path.{refl, ap₂}
 use Prim.Native.Nat.{_+_, _^_, _<_}
 use native.Mathlib.Omega.{arith}
-use Rattle.sets.specs.Held.{set128, set256}
-use Rattle.sets.proofs.Written.{words, held128, held256}
+use Rattle.sets_128.specs.Held.{set128}
+use Rattle.sets_256.specs.Held.{set256}
+use Rattle.sets.proofs.Written.{words}
+use Rattle.sets_128.proofs.Held.{held128}
+use Rattle.sets_256.proofs.Held.{held256}
 use Rattle.edit_trials.proofs.Counting.{count-small, role-all}
 use Rattle.edit_trials.proofs.count.role_counts.Statement.{statement}
 use Rattle.edit_trials.proofs.count.role_counts.Tie as tie

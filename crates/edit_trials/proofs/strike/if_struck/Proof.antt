@@ -2,8 +2,9 @@
 -- Assumes nothing.
 use borrow.Author.Needs.{needs}
 use Prim.Native.Nat.{_^_, _<_}
-use Rattle.sets.specs.Held.{set128}
-use Rattle.sets.proofs.Written.{words, held128}
+use Rattle.sets_128.specs.Held.{set128}
+use Rattle.sets.proofs.Written.{words}
+use Rattle.sets_128.proofs.Held.{held128}
 use Rattle.edit_trials.proofs.Leaving.{struck-neighbours, struck-within, struck-exact}
 use Rattle.edit_trials.proofs.strike.if_struck.Statement.{statement}
 use Rattle.edit_trials.proofs.strike.if_struck.Tie as tie

@@ -4,8 +4,9 @@ use borrow.Author.Needs.{needs}
 use Prim.Native.Nat.{_^_, _<_}
 use native.Mathlib.Omega.{arith}
 use lib.Count.{ones}
-use Rattle.sets.specs.Held.{set128}
-use Rattle.sets.proofs.Written.{words, held128}
+use Rattle.sets_128.specs.Held.{set128}
+use Rattle.sets.proofs.Written.{words}
+use Rattle.sets_128.proofs.Held.{held128}
 use Rattle.hierarchy.specs.Tables.{lessAll}
 use Rattle.hierarchy.proofs.Sieving.{fewer, not-empty, is-empty}
 use Rattle.edit_trials.specs.Trying.{others}

@@ -1,13 +1,16 @@
 -- What the roles that are not in `rest` take over is counted.
 -- Assumes nothing.
 use borrow.Author.Needs.{needs}
-use Rattle.sets.proofs.set128.Set128.is_empty.Reads as set128-Set128-is-empty-reads
-use Rattle.sets.proofs.set256.Set256.is_empty.Reads as set256-Set256-is-empty-reads
+use Rattle.sets_128.proofs.Set128.is_empty.Reads as set128-Set128-is-empty-reads
+use Rattle.sets_256.proofs.Set256.is_empty.Reads as set256-Set256-is-empty-reads
 use Prim.Native.Nat.{_^_, _<_}
 use native.Mathlib.Omega.{arith}
 use lib.Count.{ones}
-use Rattle.sets.specs.Held.{set128, set256}
-use Rattle.sets.proofs.Written.{words, held128, held256}
+use Rattle.sets_128.specs.Held.{set128}
+use Rattle.sets_256.specs.Held.{set256}
+use Rattle.sets.proofs.Written.{words}
+use Rattle.sets_128.proofs.Held.{held128}
+use Rattle.sets_256.proofs.Held.{held256}
 use Rattle.hierarchy.specs.Tables.{lessAll}
 use Rattle.hierarchy.proofs.Sieving.{fewer, not-empty, is-empty}
 use Rattle.edit_trials.specs.Trying.{others}

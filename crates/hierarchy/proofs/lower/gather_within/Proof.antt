@@ -4,7 +4,7 @@ use borrow.Author.Needs.{needs}
 use mathlib.Core.Path.{_≡_, sym, _∙_}
 use native.Mathlib.Omega.{arith}
 use Prim.Native.Nat.{_+_, _-_, _*_, _≤_}
-use Rattle.sets.specs.Held.{set256}
+use Rattle.sets_256.specs.Held.{set256}
 use Rattle.sets.specs.Sets.{subset, collect}
 use Rattle.sets.proofs.Order.{collect-zero, collect-bit}
 use Rattle.model.specs.Lists.{setAt}

@@ -5,7 +5,7 @@ use native.Mathlib.Omega.{arith}
 use lib.Count.{ones}
 use borrow.Author.Needs.{needs}
 use borrow.Author.Tests.{not-true, not-false}
-use Rattle.sets.specs.Held.{set128}
+use Rattle.sets_128.specs.Held.{set128}
 use Rattle.hierarchy.proofs.Sieving.{fewer, not-empty, is-empty}
 use Rattle.hierarchy.proofs.Seeking.{Seeking, sought-absent, sought-start, sought-more, sought-all}
 use Rattle.hierarchy.proofs.seniors.seniors_of.Statement.{statement}

@@ -3,7 +3,7 @@
 use borrow.Author.Needs.{needs}
 use native.Mathlib.Omega.{arith}
 use lib.Count.{ones}
-use Rattle.sets.specs.Held.{set128}
+use Rattle.sets_128.specs.Held.{set128}
 use Rattle.hierarchy.proofs.Sieving.{Sieved, sieved-start, sieved-more, sieved-all, fewer-both, not-empty, is-empty}
 use Rattle.hierarchy.proofs.sieve.maximal_of.Statement.{statement}
 use Rattle.hierarchy.proofs.sieve.maximal_of.Tie as tie

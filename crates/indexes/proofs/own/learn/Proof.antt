@@ -3,8 +3,9 @@
 use borrow.Author.Needs.{needs}
 use mathlib.Core.Path.{sym, _∙_}
 use Prim.Native.Nat.{_^_, _<_}
-use Rattle.sets.specs.Held.{set128}
-use Rattle.sets.proofs.Written.{words, held128}
+use Rattle.sets_128.specs.Held.{set128}
+use Rattle.sets.proofs.Written.{words}
+use Rattle.sets_128.proofs.Held.{held128}
 use Rattle.indexes.proofs.Owning.{own-learnt}
 use Rattle.indexes.proofs.own.learn.Statement.{statement}
 use Rattle.indexes.proofs.own.learn.Tie as tie

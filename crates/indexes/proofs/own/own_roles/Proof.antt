@@ -4,7 +4,7 @@ use borrow.Author.Needs.{needs}
 use mathlib.Core.Path.{_≡_, sym, _∙_, subst}
 use mathlib.Core.Logic.{_⊎_}
 use native.Mathlib.Omega.{arith}
-use Rattle.sets.specs.Held.{set256}
+use Rattle.sets_256.specs.Held.{set256}
 use Rattle.sets.proofs.Truth.{equal-or}
 use Rattle.tables.specs.Search.{Finds}
 use Rattle.indexes.proofs.Sources.{own-none, own-missing, own-role, own-found}

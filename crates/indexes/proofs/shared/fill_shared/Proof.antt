@@ -7,12 +7,13 @@ use Prim.Native.Nat.{ℕ, _^_, _<_}
 use native.Mathlib.Omega.{arith}
 use lib.Count.{ones}
 use lib.ListN.{length}
-use Rattle.sets.specs.Held.{set128}
+use Rattle.sets_128.specs.Held.{set128}
 use Rattle.sets.specs.Sets.{has, _∩_, _∖_, single}
 use Rattle.sets.proofs.Truth.{So-not}
 use Rattle.sets.proofs.Items.{has-zero}
 use Rattle.sets.proofs.Order.{∖-iff}
-use Rattle.sets.proofs.Written.{words, held128}
+use Rattle.sets.proofs.Written.{words}
+use Rattle.sets_128.proofs.Held.{held128}
 use Rattle.model.specs.Hierarchy.{candidateCount, authorisedUsers}
 use Rattle.model.specs.Indexes.{lower, rolesOfUser}
 use Rattle.model.specs.State.{State, rolesOf}

@@ -5,7 +5,7 @@ use mathlib.Core.Bool.{So}
 use Prim.Native.Nat.{ℕ}
 use native.Mathlib.Omega.{arith}
 use lib.Count.{ones}
-use Rattle.sets.specs.Held.{set128}
+use Rattle.sets_128.specs.Held.{set128}
 use Rattle.sets.specs.Sets.{has}
 use Rattle.sets.proofs.Order.{∖-iff}
 use Rattle.hierarchy.proofs.Sieving.{fewer, not-empty, is-empty}

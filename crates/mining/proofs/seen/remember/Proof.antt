@@ -1,8 +1,9 @@
 -- One slot is written.
 -- Assumes nothing.
 use Prim.Native.Nat.{_^_, _<_}
-use Rattle.sets.specs.Held.{set256}
-use Rattle.sets.proofs.Written.{words, held256}
+use Rattle.sets_256.specs.Held.{set256}
+use Rattle.sets.proofs.Written.{words}
+use Rattle.sets_256.proofs.Held.{held256}
 use Rattle.mining.proofs.Seeing.{slot-stored}
 use borrow.Author.Needs.{needs}
 use Rattle.mining.proofs.seen.remember.Statement.{statement}

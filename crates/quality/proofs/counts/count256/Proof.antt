@@ -3,8 +3,9 @@
 use Prim.Native.Nat.{_-_, _^_, _<_}
 use native.Mathlib.Omega.{arith}
 use lib.Count.{ones-le}
-use Rattle.sets.specs.Held.{set256}
-use Rattle.sets.proofs.Written.{words, held256}
+use Rattle.sets_256.specs.Held.{set256}
+use Rattle.sets.proofs.Written.{words}
+use Rattle.sets_256.proofs.Held.{held256}
 use Rattle.quality.proofs.Tally.{Tallied, tallied-none, tallied-more, tallied-all}
 use borrow.Author.Needs.{needs}
 use Rattle.quality.proofs.counts.count256.Statement.{statement}

@@ -6,8 +6,9 @@ use Prim.Native.Nat.{ℕ, _^_, _<_}
 use native.Mathlib.Omega.{arith}
 use lib.Count.{ones}
 use lib.ListN.{length}
-use Rattle.sets.specs.Held.{set128}
-use Rattle.sets.proofs.Written.{words, held128}
+use Rattle.sets_128.specs.Held.{set128}
+use Rattle.sets.proofs.Written.{words}
+use Rattle.sets_128.proofs.Held.{held128}
 use Rattle.hierarchy.proofs.Sieving.{fewer, not-empty, is-empty}
 use Rattle.rows.proofs.Linking.{Relinked, relinked-start, relinked-more, relinked-all}
 use Rattle.rows.proofs.link.relink.Statement.{statement}

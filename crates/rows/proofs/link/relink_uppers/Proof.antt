@@ -6,7 +6,7 @@ use Prim.Native.Nat.{ℕ}
 use native.Mathlib.Omega.{arith}
 use lib.Count.{ones}
 use lib.ListN.{length}
-use Rattle.sets.specs.Held.{set128}
+use Rattle.sets_128.specs.Held.{set128}
 use Rattle.model.specs.Hierarchy.{RoleRows}
 use Rattle.model.specs.Record.{recordLength}
 use Rattle.model.specs.State.{State}

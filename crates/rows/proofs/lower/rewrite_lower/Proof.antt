@@ -2,8 +2,9 @@
 -- Assumes nothing.
 use borrow.Author.Needs.{needs}
 use Prim.Native.Nat.{_^_, _<_}
-use Rattle.sets.specs.Held.{set128}
-use Rattle.sets.proofs.Written.{words, held128}
+use Rattle.sets_128.specs.Held.{set128}
+use Rattle.sets.proofs.Written.{words}
+use Rattle.sets_128.proofs.Held.{held128}
 use Rattle.rows.proofs.Rewriting.{lower-rewritten}
 use Rattle.rows.proofs.lower.rewrite_lower.Statement.{statement}
 use Rattle.rows.proofs.lower.rewrite_lower.Tie as tie

@@ -5,7 +5,7 @@ use mathlib.Core.Path.{_≡_, _∙_}
 use Prim.Native.Nat.{ℕ, _-_, _≤_}
 use native.Mathlib.Omega.{arith}
 use lib.ListN.{length}
-use Rattle.sets.specs.Held.{set128}
+use Rattle.sets_128.specs.Held.{set128}
 use Rattle.model.specs.Hierarchy.{RoleRows}
 use Rattle.model.specs.Record.{recordLength}
 use Rattle.model.specs.State.{State}

@@ -2,8 +2,9 @@
 -- Assumes nothing.
 use Prim.Native.Nat.{_^_, _<_}
 use borrow.Author.Needs.{needs}
-use Rattle.sets.specs.Held.{set256}
-use Rattle.sets.proofs.Written.{words, held256}
+use Rattle.sets_256.specs.Held.{set256}
+use Rattle.sets.proofs.Written.{words}
+use Rattle.sets_256.proofs.Held.{held256}
 use Rattle.tables.proofs.Moving.{Moved, moved-none, moved-more, inserted}
 use Rattle.tables.proofs.growing.insert.Statement.{statement}
 use Rattle.tables.proofs.growing.insert.Tie as tie

@@ -4,7 +4,7 @@ use mathlib.Core.Path.{sym, _∙_}
 use Prim.Native.Nat.{_-_}
 use native.Mathlib.Omega.{arith}
 use borrow.Author.Needs.{needs}
-use Rattle.sets.specs.Held.{set256}
+use Rattle.sets_256.specs.Held.{set256}
 use Rattle.model.specs.Lists.{rowsAt}
 use Rattle.tables.proofs.Halving.{Halved, halved-none, halved-all, found-there, halved-up, halved-down}
 use Rattle.tables.proofs.growing.search.Statement.{statement}

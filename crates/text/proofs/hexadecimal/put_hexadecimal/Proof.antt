@@ -3,7 +3,7 @@
 use Rattle.text.proofs.Hexadecimals.{hex-stored, hex-nibble, hex-nibble-lt, hex-store}
 use native.Mathlib.Nat.{add-zero, sub-zero}
 use Prim.Native.Nat.{_+_, _-_, _≤_}
-use Rattle.sets.specs.Held.{set256}
+use Rattle.sets_256.specs.Held.{set256}
 use Rattle.text.specs.Digits.{digitByte}
 use Rattle.text.specs.Hexadecimal.{hexadecimal}
 use Rattle.stores.specs.Stores.{putAt}

@@ -4,9 +4,11 @@ use mathlib.Core.Path.{_≡_, _∙_, ap₂}
 use mathlib.Core.List.{[], _∷_}
 use Prim.Native.Nat.{ℕ, _^_, _<_}
 use borrow.Author.Needs.{needs}
-use Rattle.sets.specs.Held.{set128, set256}
+use Rattle.sets_128.specs.Held.{set128}
+use Rattle.sets_256.specs.Held.{set256}
 use Rattle.sets.specs.Words.{value}
-use Rattle.sets.proofs.Written.{words, held128}
+use Rattle.sets.proofs.Written.{words}
+use Rattle.sets_128.proofs.Held.{held128}
 use Rattle.text.proofs.Hexadecimals.{wider}
 use Rattle.text.proofs.hexadecimal.put_hexadecimal_128.Statement.{statement}
 use Rattle.text.proofs.hexadecimal.put_hexadecimal_128.Tie as tie
