@@ -10,16 +10,29 @@ CARGO = install Rust with cargo
 LIBRARY = target/staticlib/libpanel.a
 HOST = --offline --quiet --manifest-path host/Cargo.toml
 
-.PHONY: test run vectors example host-test bench
+.PHONY: test checks test-model test-vectors test-header test-trust run vectors example host-test bench
 
 test:
 	@$(call need,rt,$(RATTLE))
 	@$(call need,python3,$(PYTHON))
 	rt fmt --check
-	python3 tests/test_model.py
-	python3 tests/vectors.py --check
-	python3 tests/header.py
+	@$(MAKE) --no-print-directory -j2 checks
 	RT_JOBS=2 rt ci
+
+# what the gate checks beside the proofs, two at a time
+checks: test-vectors test-model test-header test-trust
+
+test-vectors:
+	python3 tests/vectors.py --check
+
+test-model:
+	python3 tests/test_model.py
+
+test-header:
+	python3 tests/header.py
+
+test-trust:
+	python3 tests/trust.py
 
 # make run [CREW=path] [PRETTY=1]: the roles of a crew text, as the lister prints them or for a person
 CREW = examples/tour.crew
@@ -30,7 +43,8 @@ run:
 	@test -r "$(CREW)" || { echo "make run: can't read $(CREW)" >&2; exit 1; }
 	@mkdir -p target
 	@echo "proving and building the lister (some minutes the first time; log: target/run.log)" >&2
-	@rt check lister > target/run.log 2>&1 || { echo "make run: the lister could not be proved or built: see target/run.log" >&2; exit 1; }
+	@{ rt check lister 2>&1; echo $$? > target/run.status; } | tee target/run.log | awk -f tools/progress.awk -v program=lister crates.txt - >&2
+	@test "$$(cat target/run.status)" = 0 || { echo "make run: the lister could not be proved or built: see target/run.log" >&2; exit 1; }
 	@target/bin/lister < "$(CREW)" > target/roles.txt
 	@$(if $(PRETTY),python3 tools/pretty.py "$(CREW)" target/roles.svg < target/roles.txt,cat target/roles.txt)
 
