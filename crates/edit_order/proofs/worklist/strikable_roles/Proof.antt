@@ -43,7 +43,10 @@ loop-less c = rw (c .remove .ensures) (fewer _ _ (c .before .before .before .low
 
 loop-again : tie.Need-loop-again Inv-loop μ-loop
 loop-again c =
-    gathering-more _ _ _ _ _ _ _ _ (c .before .before .before .before .before .before .loop .inv) (c .before .before .before .lowest-item .ensures .there) (c .before .before .removable .ensures) (c .before .with-strikable .ensures) (c .remove .ensures)
+    let asked = c .before .before in
+    let one = asked .before in
+    gathering-more _ _ _ _ _ _ _ _ (one .before .before .before .loop .inv) (one .lowest-item .ensures .there) (asked .removable .ensures)
+    (c .before .with-strikable .ensures) (c .remove .ensures)
 
 returns : tie.Need-returns Inv-loop μ-loop
 returns c = gathering-all _ _ _ _ (c .before .before .loop .inv) (is-empty _ _ (c .before .is-empty .ensures) (c .if1 .left))
