@@ -18,6 +18,9 @@ use Rattle.edit_order.proofs.fill.fill_order.Tie as tie
 abbrev start : tie.After-fill-reach → tie.Start
 start c = c .before .before .before .before
 
+abbrev sampled : tie.After-fill-further-arg → tie.After-fill-samples
+sampled c = c .before .before .before
+
 abbrev reached : tie.After-fill-samples → tie.After-fill-reach
 reached c = c .before .before .before .before
 
@@ -32,7 +35,7 @@ fill-samples-requires c κs = search needs
 
 fill-further-requires : tie.Need-fill-further-requires
 fill-further-requires c κs =
-    let samples = c .before .before .before in
+    let samples = sampled c in
     let reach = reached samples in
     let ix = start reach .pre .0 in
     let found = samples .fill-samples .ensures .1 .1 (ix .0) (ix .1) (ix .3) in
@@ -61,7 +64,7 @@ returns : tie.Need-returns
 returns c =
     let holders = c .before .before .before in
     let further = holders .before .before .before .before .before in
-    let samples = further .before .before .before .before in
+    let samples = sampled (further .before) in
     let reach = reached samples in
     let w1 = reach .fill-reach .last .1 .1 .0 in
     let w2 = samples .fill-samples .last .1 .1 .0 in

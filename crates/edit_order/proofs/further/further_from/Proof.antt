@@ -26,8 +26,8 @@ start c = c .before .before .before
 abbrev at-loop : tie.After-highest-item Inv-loop μ-loop → tie.At-loop Inv-loop μ-loop
 at-loop c = c .before .before .before
 
-abbrev item : tie.After-difference Inv-loop μ-loop → tie.After-highest-item Inv-loop μ-loop
-item c = c .before .before .before .before
+abbrev item : tie.After-intersection Inv-loop μ-loop → tie.After-highest-item Inv-loop μ-loop
+item c = c .before .before
 
 placed : (c : tie.Start Inv-loop μ-loop) → (length (c .args .work .now) ≡ workLength) × (c .args .i < 128)
 placed c = let n = c .pre .samples .few in let l = c .pre .one in (c .pre .reach .size, omega arith)
@@ -66,15 +66,15 @@ intersection-requires : tie.Need-intersection-requires Inv-loop μ-loop
 intersection-requires c κs = search needs
 
 mul-load128-3 : tie.Need-mul-load128-3 Inv-loop μ-loop
-mul-load128-3 c = let l = c .before .before .highest-item .ensures .small in omega arith
+mul-load128-3 c = let l = item c .highest-item .ensures .small in omega arith
 
 add-load128-3 : tie.Need-add-load128-3 Inv-loop μ-loop
-add-load128-3 c = let l = c .before .before .highest-item .ensures .small in omega arith
+add-load128-3 c = let l = item c .highest-item .ensures .small in omega arith
 
 load128-requires-3 : tie.Need-load128-requires-3 Inv-loop μ-loop
 load128-requires-3 c κs =
-    let l = c .before .before .highest-item .ensures .small in
-    let s = start (at-loop (c .before .before)) .pre .reach .size in
+    let l = item c .highest-item .ensures .small in
+    let s = start (at-loop (item c)) .pre .reach .size in
     omega arith
 
 difference-requires : tie.Need-difference-requires Inv-loop μ-loop
@@ -82,14 +82,16 @@ difference-requires c κs = search needs
 
 loop-less : tie.Need-loop-less Inv-loop μ-loop
 loop-less c =
-    let turn = at-loop (item c) in
-    rw (c .difference .ensures) (narrowing-fewer _ _ _ _ _ (start turn .pre) (turn .loop .inv) _ (item c .highest-item .ensures .there) _ (c .before .load1283 .ensures))
+    let one = item (c .before .before) in
+    let turn = at-loop one in
+    rw (c .difference .ensures) (narrowing-fewer _ _ _ _ _ (start turn .pre) (turn .loop .inv) _ (one .highest-item .ensures .there) _ (c .before .load1283 .ensures))
 
 loop-again : tie.Need-loop-again Inv-loop μ-loop
 loop-again c =
     let met = c .before .before in
-    let turn = at-loop (item c) in
-    narrowing-more _ _ _ _ _ (start turn .pre) (turn .loop .inv) _ (item c .highest-item .ensures .there) _ (c .before .load1283 .ensures)
+    let one = item met in
+    let turn = at-loop one in
+    narrowing-more _ _ _ _ _ (start turn .pre) (turn .loop .inv) _ (one .highest-item .ensures .there) _ (c .before .load1283 .ensures)
     _ _ _ (met .before .load1282 .ensures) (met .intersection .ensures) (c .difference .ensures)
 
 returns : tie.Need-returns Inv-loop μ-loop

@@ -32,6 +32,12 @@ clear c = c .before .before .before
 abbrev at-loop : tie.After-redundancy-arg Inv-loop μ-loop → tie.At-loop Inv-loop μ-loop
 at-loop c = c .before .before .before .before
 
+abbrev turn : tie.After-redundancy Inv-loop μ-loop → tie.At-loop Inv-loop μ-loop
+turn c = at-loop (c .before)
+
+abbrev put : tie.After-remove Inv-loop μ-loop → tie.After-insert Inv-loop μ-loop
+put c = c .before .before .before .before
+
 abbrev ranked : tie.After-insert Inv-loop μ-loop → tie.After-redundancy Inv-loop μ-loop
 ranked c = c .before .before .before .before
 
@@ -48,7 +54,7 @@ blank c =
 rank-small : (c : tie.After-redundancy Inv-loop μ-loop) → c .redundancy .result ≤ 128
 rank-small c =
     let l = c .redundancy .ensures .0 in
-    let f = at-start (start (clear (at-loop (c .before)))) in
+    let f = at-start (start (clear (turn c))) in
     omega arith
 
 narrow : (c : tie.After-insert Inv-loop μ-loop) → set128 (c .insert .result) < 2 ^ 128
@@ -86,9 +92,9 @@ lowest-item-requires c κs = not-empty _ _ (c .before .is-empty .ensures) (c .if
 
 redundancy-requires : tie.Need-redundancy-requires Inv-loop μ-loop
 redundancy-requires c κs =
-    let turn = at-loop c in
-    let begin = start (clear turn) in
-    sorting-ready _ _ _ _ _ _ (turn .loop .inv) _ (begin .args .work .now) (blank (clear turn)) (begin .pre .0) (begin .pre .1) (c .before .lowest-item .ensures .there)
+    let loop = at-loop c in
+    let begin = start (clear loop) in
+    sorting-ready _ _ _ _ _ _ (loop .loop .inv) _ (begin .args .work .now) (blank (clear loop)) (begin .pre .0) (begin .pre .1) (c .before .lowest-item .ensures .there)
 
 mul-at : tie.Need-mul-at Inv-loop μ-loop
 mul-at c = let l = rank-small c in omega arith
@@ -99,7 +105,7 @@ add-at c = let l = rank-small c in omega arith
 load128-requires : tie.Need-load128-requires Inv-loop μ-loop
 load128-requires c κs =
     let l = rank-small (c .before .before) in
-    let z = at-loop (c .before .before .before) .loop .inv .size in
+    let z = turn (c .before .before) .loop .inv .size in
     omega arith
 
 insert-requires : tie.Need-insert-requires Inv-loop μ-loop
@@ -108,26 +114,24 @@ insert-requires c κs = search needs
 store128-requires : tie.Need-store128-requires Inv-loop μ-loop
 store128-requires c κs =
     let l = rank-small (ranked c) in
-    let z = at-loop (ranked c .before) .loop .inv .size in
+    let z = turn (ranked c) .loop .inv .size in
     omega arith
 
 remove-requires : tie.Need-remove-requires Inv-loop μ-loop
 remove-requires c κs = search needs
 
 loop-less : tie.Need-loop-less Inv-loop μ-loop
-loop-less c =
-    let put = c .before .before .before .before in
-    rw (c .remove .ensures) (fewer _ _ (ranked put .before .before .lowest-item .ensures .there))
+loop-less c = rw (c .remove .ensures) (fewer _ _ (ranked (put c) .before .before .lowest-item .ensures .there))
 
 loop-again : tie.Need-loop-again Inv-loop μ-loop
 loop-again c =
-    let put = c .before .before .before .before in
-    let rank = ranked put in
-    let turn = at-loop (rank .before) in
+    let new = put c in
+    let rank = ranked new in
+    let loop = turn rank in
     let item = rank .before .before .lowest-item .ensures in
     rw (c .before .before .before .store128 .ensures)
-    (sorting-more _ _ _ _ _ _ (turn .loop .inv) _ _ _ _ (item .there) (item .small) (at-start (start (clear turn)) .1) (rank .redundancy .ensures)
-    (put .before .load128 .ensures) (put .insert .ensures) (narrow put) _ (c .remove .ensures))
+    (sorting-more _ _ _ _ _ _ (loop .loop .inv) _ _ _ _ (item .there) (item .small) (at-start (start (clear loop)) .1) (rank .redundancy .ensures)
+    (new .before .load128 .ensures) (new .insert .ensures) (narrow new) _ (c .remove .ensures))
 
 same-length : tie.Need-same-length Inv-loop μ-loop
 same-length c =
@@ -137,9 +141,9 @@ same-length c =
 
 returns : tie.Need-returns Inv-loop μ-loop
 returns c =
-    let turn = c .before .before in
-    let begin = start (clear turn) in
-    sorting-all _ _ _ _ _ _ (turn .loop .inv) (begin .args .work .now) (at-start begin .0) (at-start begin .1) (blank (clear turn))
+    let loop = c .before .before in
+    let begin = start (clear loop) in
+    sorting-all _ _ _ _ _ _ (loop .loop .inv) (begin .args .work .now) (at-start begin .0) (at-start begin .1) (blank (clear loop))
     (is-empty _ _ (c .before .is-empty .ensures) (c .if1 .left))
 
 pub fill-ranks-spec : {M : Type 1} → statement M

@@ -23,11 +23,17 @@ abbrev μ-loop : tie.MeasureT-loop
 abbrev start : tie.After-intersection Inv-loop μ-loop → tie.Start Inv-loop μ-loop
 start c = c .before .before .before
 
+abbrev begin : tie.At-loop Inv-loop μ-loop → tie.Start Inv-loop μ-loop
+begin c = start (c .before)
+
 abbrev at-loop : tie.After-highest-item Inv-loop μ-loop → tie.At-loop Inv-loop μ-loop
 at-loop c = c .before .before .before
 
 abbrev item : tie.After-smaller Inv-loop μ-loop → tie.After-highest-item Inv-loop μ-loop
 item c = c .before .before .before .before
+
+abbrev tested : tie.After-difference Inv-loop μ-loop → tie.After-smaller Inv-loop μ-loop
+tested c = c .before .before .before
 
 abbrev turn : tie.After-smaller Inv-loop μ-loop → tie.At-loop Inv-loop μ-loop
 turn c = at-loop (item c)
@@ -37,7 +43,7 @@ own-roles c = c .intersection .ensures ∙ ap (λ (x : ℕ). x ∩ set128 (start
 
 -- one holder is asked
 one : (c : tie.After-smaller Inv-loop μ-loop)
-    → HolderAsked (start (turn c .before) .args .work .now) (set128 (turn c .before .intersection .result)) (turn c .loop .least) (set128 (turn c .loop .rest)) (item c .highest-item .result) (c .smaller .result)
+    → HolderAsked (begin (turn c) .args .work .now) (set128 (turn c .before .intersection .result)) (turn c .loop .least) (set128 (turn c .loop .rest)) (item c .highest-item .result) (c .smaller .result)
 one c =
     asked _ _ _ _ _ _ _ _ _ (item c .highest-item .ensures .there) (c .before .before .before .load1282 .ensures)
     (c .before .before .intersection2 .ensures) (c .before .count .ensures) (c .smaller .ensures)
@@ -72,7 +78,7 @@ add-load128-2 c = let l = c .highest-item .ensures .small in omega arith
 load128-requires-2 : tie.Need-load128-requires-2 Inv-loop μ-loop
 load128-requires-2 c κs =
     let l = c .highest-item .ensures .small in
-    let z = start (at-loop c .before) .pre .1 .1 .reach .size in
+    let z = begin (at-loop c) .pre .1 .1 .reach .size in
     omega arith
 
 intersection-requires-2 : tie.Need-intersection-requires-2 Inv-loop μ-loop
@@ -87,7 +93,7 @@ smaller-requires c κs = search needs
 returns : tie.Need-returns Inv-loop μ-loop
 returns c =
     let loop = turn (c .before) in
-    rw (own-roles (loop .before)) at (asking-stop _ _ _ _ _ _ (start (loop .before) .pre .1) (loop .loop .inv) _ _ (one (c .before)) _ (c .if2 .taken))
+    rw (own-roles (loop .before)) at (asking-stop _ _ _ _ _ _ (begin loop .pre .1) (loop .loop .inv) _ _ (one (c .before)) _ (c .if2 .taken))
 
 mul-load128-3 : tie.Need-mul-load128-3 Inv-loop μ-loop
 mul-load128-3 c = let l = item (c .before) .highest-item .ensures .small in omega arith
@@ -98,7 +104,7 @@ add-load128-3 c = let l = item (c .before) .highest-item .ensures .small in omeg
 load128-requires-3 : tie.Need-load128-requires-3 Inv-loop μ-loop
 load128-requires-3 c κs =
     let l = item (c .before) .highest-item .ensures .small in
-    let z = start (turn (c .before) .before) .pre .1 .1 .reach .size in
+    let z = begin (turn (c .before)) .pre .1 .1 .reach .size in
     omega arith
 
 difference-requires : tie.Need-difference-requires Inv-loop μ-loop
@@ -106,22 +112,21 @@ difference-requires c κs = search needs
 
 loop-less : tie.Need-loop-less Inv-loop μ-loop
 loop-less c =
-    let test = c .before .before .before in
+    let test = tested c in
     let loop = turn test in
-    rw (c .difference .ensures) (asking-fewer _ _ _ _ _ _ (start (loop .before) .pre .1) (loop .loop .inv) _ _ (one test) _ (c .before .load1283 .ensures))
+    rw (c .difference .ensures) (asking-fewer _ _ _ _ _ _ (begin loop .pre .1) (loop .loop .inv) _ _ (one test) _ (c .before .load1283 .ensures))
 
 loop-again : tie.Need-loop-again Inv-loop μ-loop
 loop-again c =
-    let test = c .before .before .before in
+    let test = tested c in
     let loop = turn test in
-    asking-more _ _ _ _ _ _ (start (loop .before) .pre .1) (loop .loop .inv) _ _ (one test) _ _ (c .before .load1283 .ensures) (c .difference .ensures)
+    asking-more _ _ _ _ _ _ (begin loop .pre .1) (loop .loop .inv) _ _ (one test) _ _ (c .before .load1283 .ensures) (c .difference .ensures)
 
 returns-2 : tie.Need-returns-2 Inv-loop μ-loop
 returns-2 c =
     let loop = c .before .before in
-    let begin = start (loop .before) in
     rw (own-roles (loop .before)) at
-    (asking-all _ _ _ _ _ _ (begin .pre .1) (loop .loop .inv) (begin .args .floor) (is-empty _ _ (c .before .is-empty .ensures) (c .if1 .left)))
+    (asking-all _ _ _ _ _ _ (begin loop .pre .1) (loop .loop .inv) (begin loop .args .floor) (is-empty _ _ (c .before .is-empty .ensures) (c .if1 .left)))
 
 pub least-of-spec : {M : Type 1} → statement M
 least-of-spec =

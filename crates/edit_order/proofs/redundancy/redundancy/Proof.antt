@@ -21,29 +21,34 @@ abbrev μ-loop : tie.MeasureT-loop
 μ-loop work c counted k floor holders least₀ samples₀ least samples = ones (set128 samples)
 
 -- the places that the answers look back to
-abbrev start : tie.After-intersection Inv-loop μ-loop → tie.Start Inv-loop μ-loop
-start c = c .before .before .before .before .before
+abbrev first : tie.After-floor-of Inv-loop μ-loop → tie.Start Inv-loop μ-loop
+first c = c .before .before
 
-abbrev begin : tie.At-loop Inv-loop μ-loop → tie.Start Inv-loop μ-loop
-begin c = start (c .before .before)
+abbrev floored : tie.After-intersection Inv-loop μ-loop → tie.After-floor-of Inv-loop μ-loop
+floored c = c .before .before .before
+
+abbrev met : tie.At-loop Inv-loop μ-loop → tie.After-intersection Inv-loop μ-loop
+met c = c .before .before
+
+abbrev start : tie.At-loop Inv-loop μ-loop → tie.Start Inv-loop μ-loop
+start c = first (floored (met c))
 
 abbrev at-loop : tie.After-highest-item Inv-loop μ-loop → tie.At-loop Inv-loop μ-loop
 at-loop c = c .before .before .before
 
-abbrev item : tie.After-difference Inv-loop μ-loop → tie.After-highest-item Inv-loop μ-loop
-item c = c .before .before .before .before
+abbrev item : tie.Else2 Inv-loop μ-loop → tie.After-highest-item Inv-loop μ-loop
+item c = c .before .before
 
 placed : (c : tie.Start Inv-loop μ-loop) → (length (c .args .work .now) ≡ workLength) × (c .args .k < 128)
 placed c = in-work _ _ _ (c .pre .0) (c .pre .1)
 
 begun : (c : tie.At-loop Inv-loop μ-loop)
-    → WalkBegun (begin c .args .work .now) (begin c .args .c) (begin c .args .k) (set128 (c .before .before .intersection .result)) (set128 (c .before .load1283 .result))
+    → WalkBegun (start c .args .work .now) (start c .args .c) (start c .args .k) (set128 (met c .intersection .result)) (set128 (c .before .load1283 .result))
 begun c =
-    let met = c .before .before in
     record {
-      given = start met .pre .0;
-      low = start met .pre .1;
-      holders = met .intersection .ensures ∙ ap₂ (λ (x y : ℕ). x ∩ y) (met .before .before .load128 .ensures) (met .before .load1282 .ensures);
+      given = start c .pre .0;
+      low = start c .pre .1;
+      holders = met c .intersection .ensures ∙ ap₂ (λ (x y : ℕ). x ∩ y) (met c .before .before .load128 .ensures) (met c .before .load1282 .ensures);
       samples = c .before .load1283 .ensures;
     }
 
@@ -51,28 +56,28 @@ floor-of-requires : tie.Need-floor-of-requires Inv-loop μ-loop
 floor-of-requires c κs = search needs
 
 mul-load128 : tie.Need-mul-load128 Inv-loop μ-loop
-mul-load128 c = let f = placed (c .before .before) in omega arith
+mul-load128 c = let f = placed (first c) in omega arith
 
 add-load128 : tie.Need-add-load128 Inv-loop μ-loop
-add-load128 c = let f = placed (c .before .before) in omega arith
+add-load128 c = let f = placed (first c) in omega arith
 
 load128-requires : tie.Need-load128-requires Inv-loop μ-loop
-load128-requires c κs = let f = placed (c .before .before) in omega arith
+load128-requires c κs = let f = placed (first c) in omega arith
 
 load128-requires-2 : tie.Need-load128-requires-2 Inv-loop μ-loop
-load128-requires-2 c κs = let f = placed (c .before .before .before) in omega arith
+load128-requires-2 c κs = let f = placed (first (c .before)) in omega arith
 
 intersection-requires : tie.Need-intersection-requires Inv-loop μ-loop
 intersection-requires c κs = search needs
 
 mul-load128-2 : tie.Need-mul-load128-2 Inv-loop μ-loop
-mul-load128-2 c = let f = placed (start c) in omega arith
+mul-load128-2 c = let f = placed (first (floored c)) in omega arith
 
 add-load128-2 : tie.Need-add-load128-2 Inv-loop μ-loop
-add-load128-2 c = let f = placed (start c) in omega arith
+add-load128-2 c = let f = placed (first (floored c)) in omega arith
 
 load128-requires-3 : tie.Need-load128-requires-3 Inv-loop μ-loop
-load128-requires-3 c κs = let f = placed (start c) in omega arith
+load128-requires-3 c κs = let f = placed (first (floored c)) in omega arith
 
 loop-holds : tie.Need-loop-holds Inv-loop μ-loop
 loop-holds c = walking-start _ _ _ _ _
@@ -91,18 +96,18 @@ returns c =
     let one = c .before .before in
     let turn = at-loop one in
     walking-stop _ _ _ _ _ (begun turn) _ _ _ (turn .loop .inv) _ _ _ (one .highest-item .ensures .there) (c .before .least-of .ensures)
-    (turn .before .before .before .before .before .floor-of .ensures) (c .if2 .taken)
+    (floored (met turn) .floor-of .ensures) (c .if2 .taken)
 
 mul-load128-3 : tie.Need-mul-load128-3 Inv-loop μ-loop
-mul-load128-3 c = let l = c .before .before .highest-item .ensures .small in omega arith
+mul-load128-3 c = let l = item c .highest-item .ensures .small in omega arith
 
 add-load128-3 : tie.Need-add-load128-3 Inv-loop μ-loop
-add-load128-3 c = let l = c .before .before .highest-item .ensures .small in omega arith
+add-load128-3 c = let l = item c .highest-item .ensures .small in omega arith
 
 load128-requires-4 : tie.Need-load128-requires-4 Inv-loop μ-loop
 load128-requires-4 c κs =
-    let l = c .before .before .highest-item .ensures .small in
-    let z = begin (at-loop (c .before .before)) .pre .0 .2 .reach .size in
+    let l = item c .highest-item .ensures .small in
+    let z = start (at-loop (item c)) .pre .0 .2 .reach .size in
     omega arith
 
 difference-requires : tie.Need-difference-requires Inv-loop μ-loop
@@ -110,14 +115,14 @@ difference-requires c κs = search needs
 
 loop-less : tie.Need-loop-less Inv-loop μ-loop
 loop-less c =
-    let one = item c in
+    let one = item (c .before .before) in
     let turn = at-loop one in
     rw (c .difference .ensures)
     (walking-fewer _ _ _ _ _ (begun turn) _ _ _ (turn .loop .inv) _ _ _ (one .highest-item .ensures .there) (c .before .before .before .least-of .ensures) _ (c .before .load1284 .ensures))
 
 loop-again : tie.Need-loop-again Inv-loop μ-loop
 loop-again c =
-    let one = item c in
+    let one = item (c .before .before) in
     let turn = at-loop one in
     walking-more _ _ _ _ _ (begun turn) _ _ _ (turn .loop .inv) _ _ _ (one .highest-item .ensures .there) (c .before .before .before .least-of .ensures)
     _ _ (c .before .before .if2 .left) (c .before .load1284 .ensures) (c .difference .ensures)

@@ -21,6 +21,9 @@ abbrev μ-loop : tie.MeasureT-loop
 abbrev at-loop : tie.After-lowest-item Inv-loop μ-loop → tie.At-loop Inv-loop μ-loop
 at-loop c = c .before .before .before
 
+abbrev added : tie.After-remove Inv-loop μ-loop → tie.After-add-sample Inv-loop μ-loop
+added c = c .before .before .before
+
 abbrev item : tie.After-add-sample Inv-loop μ-loop → tie.After-lowest-item Inv-loop μ-loop
 item c = c .before .before .before
 
@@ -53,16 +56,13 @@ remove-requires : tie.Need-remove-requires Inv-loop μ-loop
 remove-requires c κs = search needs
 
 loop-less : tie.Need-loop-less Inv-loop μ-loop
-loop-less c =
-    let added = c .before .before .before in
-    rw (c .remove .ensures) (fewer _ _ (item added .lowest-item .ensures .there))
+loop-less c = rw (c .remove .ensures) (fewer _ _ (item (added c) .lowest-item .ensures .there))
 
 loop-again : tie.Need-loop-again Inv-loop μ-loop
 loop-again c =
-    let added = c .before .before .before in
-    let one = item added in
-    adding-more _ _ _ _ _ _ _ _ _ _ _ _ (at-loop one .loop .inv) (one .lowest-item .ensures .there) (added .before .load128 .ensures) (omega arith)
-    (added .add-sample .ensures) (c .remove .ensures)
+    let one = item (added c) in
+    adding-more _ _ _ _ _ _ _ _ _ _ _ _ (at-loop one .loop .inv) (one .lowest-item .ensures .there) (added c .before .load128 .ensures) (omega arith)
+    (added c .add-sample .ensures) (c .remove .ensures)
 
 same-length : tie.Need-same-length Inv-loop μ-loop
 same-length c = let z = c .before .before .loop .inv .size in omega arith
