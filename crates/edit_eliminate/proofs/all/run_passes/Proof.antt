@@ -34,8 +34,11 @@ at-loop c = c .before .before .before
 abbrev tested : tie.After-pass-arg2 Inv-loop μ-loop → tie.Else1 Inv-loop μ-loop
 tested c = c .before .before
 
-abbrev passed : tie.After-struct-known Inv-loop μ-loop → tie.After-pass Inv-loop μ-loop
-passed c = c .before .before .before .before .before
+abbrev handed : tie.After-struct-known2 Inv-loop μ-loop → tie.After-rec Inv-loop μ-loop
+handed c = c .before .before .before .before .before
+
+abbrev passed : tie.After-struct-known2 Inv-loop μ-loop → tie.After-pass Inv-loop μ-loop
+passed c = handed c .before
 
 -- a pass has roles to take up
 listed : (c : tie.Else1 Inv-loop μ-loop) → set128 (at-loop c .loop .run .worklist) ≢ 0
@@ -75,7 +78,7 @@ pass-requires c κs =
 
 same-length-3 : tie.Need-same-length-3 Inv-loop μ-loop
 same-length-3 c =
-    let done = passed (c .before .before .before) in
+    let done = passed (c .before .before) in
     let loop = at-loop (tested (done .before)) in
     let size = loop .loop .inv .0 in
     let first = begun loop .pre .1 .1 .1 .0 in
@@ -83,7 +86,7 @@ same-length-3 c =
 
 same-length-4 : tie.Need-same-length-4 Inv-loop μ-loop
 same-length-4 c =
-    let done = passed (c .before .before .before) in
+    let done = passed (c .before .before) in
     let loop = at-loop (tested (done .before)) in
     let size = loop .loop .inv .1 in
     let first = begun loop .pre .1 .1 .1 .1 .1 in
@@ -91,7 +94,7 @@ same-length-4 c =
 
 returns-2 : tie.Need-returns-2 Inv-loop μ-loop
 returns-2 c =
-    let done = passed (c .before .before .before) in
+    let done = passed (c .before .before) in
     let test = tested (done .before) in
     let loop = at-loop test in
     running-last _ _ _ _ _ _ _ _ (loop .loop .inv .2) (test .before .before .loop-test .taken) (listed test) _ (done .pass .last .1 .1 .0) _ (done .pass .ensures .0) (c .before .if2 .taken)
@@ -107,7 +110,7 @@ loop-less c = search needs
 
 loop-again : tie.Need-loop-again Inv-loop μ-loop
 loop-again c =
-    let done = passed (c .before .before .before .before) in
+    let done = passed (c .before .before .before) in
     let test = tested (done .before) in
     let loop = at-loop test in (
       search needs,

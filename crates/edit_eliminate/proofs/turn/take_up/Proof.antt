@@ -19,6 +19,9 @@ start c = entry (c .before .before .before .before .before)
 abbrev asked : tie.After-counts → tie.After-removable
 asked c = c .before .before .before .before .before
 
+abbrev judged : tie.Else2 → tie.After-counts
+judged c = c .before .before .before
+
 abbrev decided : tie.After-take-out-at → tie.Else2
 decided c = c .before .before .before
 
@@ -74,12 +77,12 @@ returns-2 c =
 
 take-out-at-requires : tie.Need-take-out-at-requires
 take-out-at-requires c κs =
-    let sizes = start (asked (c .before .before .before .before .before)) .pre .1 .1 .1 in
+    let sizes = start (asked (judged (c .before .before))) .pre .1 .1 .1 in
     (sizes .0, (sizes .1 .0, (sizes .1 .1 .0, sizes .1 .1 .1 .0)))
 
 add-t29 : tie.Need-add-t29
 add-t29 c =
-    let given = start (asked (decided (written c) .before .before .before)) .pre in
+    let given = start (asked (judged (decided (written c)))) .pre in
     let fewer = given .0 .fewer in
     let few = given .1 .1 .1 .1 .1 .1 .1 in
     omega arith
@@ -98,8 +101,8 @@ returns-3 c =
     let out = written (c .before) in
     let way = decided out in
     let weigh = way .before .before in
-    let trial = weigh .before .before in
-    let ask = asked (weigh .before) in
+    let trial = judged way .before in
+    let ask = asked (judged way) in
     let given = start ask .pre in
     let made = out .take-out-at .ensures _ (given .0 .in-step .ready) (given .1 .1 .0) (trial .if-struck .ensures .neighbours) in
     turn-struck _ _ _ _ _ _ (given .0) _ (given .1 .1 .0) (ask .removable .ensures) (not-false _ (trial .before .before .before .if1 .left)) _ (trial .if-struck .ensures)
