@@ -152,7 +152,7 @@ module _ (ws index : List ℕ) (terms : Terms) (at : Turn) where
 
 module _ (ws index work : List ℕ) (turn : Turn) (c s : ℕ) (u : Underway ws index (take downStart work) turn) (prepared : Prepared (rolesOf (stateOf ws)) work)
     (stand : Stand s (stateOf ws .standing)) (e : c ≡ getD ws 2 0) where
-  count : candidateCount (rolesOf (stateOf ws)) ≡ c
+  pub count : candidateCount (rolesOf (stateOf ws)) ≡ c
   count = roles-count ws index (take downStart work) (u .in-step .ready) ∙ sym e
 
   pub ranks-asked : PreparedFor c work × (s < 2 ^ c)

@@ -9,13 +9,20 @@ use Rattle.mining.proofs.Walking.{held-seen}
 use Rattle.mining.proofs.add_row.Statement.{statement}
 use Rattle.mining.proofs.add_row.Tie as tie
 
+-- the places that the answers look back to
+abbrev start : tie.After-is-empty → tie.Start
+start c = c .before .before .before
+
+abbrev filled : tie.After-search → tie.Else1
+filled c = c .before .before
+
 is-empty-requires : tie.Need-is-empty-requires
 is-empty-requires c κs = search needs
 
 returns : tie.Need-returns
 returns c =
-    let start = c .before .before .before .before in
-    held-seen (row-empty _ (start .pre .0) (eqb-true _ _ (sym (c .before .is-empty .ensures) ∙ c .if1 .taken))) (start .pre .2)
+    let given = start (c .before) .pre in
+    held-seen (row-empty _ (given .0) (eqb-true _ _ (sym (c .before .is-empty .ensures) ∙ c .if1 .taken))) (given .2)
 
 search-requires : tie.Need-search-requires
 search-requires c κs = search needs
@@ -31,17 +38,21 @@ same-length c = search needs
 
 returns-2 : tie.Need-returns-2
 returns-2 c =
-    let start = c .before .before .before .before .before .before .before .before in
-    held-seen (row-listed _ (start .pre .0) (start .pre .1) (found-listed _ _ _ (rw (c .enum-told .given .1) at (c .before .before .search .ensures)))) (start .pre .2)
+    let call = c .before .before in
+    let given = start (filled call .before) .pre in
+    held-seen (row-listed _ (given .0) (given .1) (found-listed _ _ _ (rw (c .enum-told .given .1) at (call .search .ensures)))) (given .2)
 
 add-new-requires : tie.Need-add-new-requires
 add-new-requires c κs =
-    let start = c .before .before .before .before .before .before .before .before .before .before .before in (
-      start .pre .0,
-      start .pre .1 .grows,
-      start .pre .2,
-      eqb-false _ _ (sym (c .before .before .before .before .before .before .before .before .is-empty .ensures) ∙ c .before .before .before .before .before .before .before .if1 .left),
-      rw (c .before .before .before .at .given .1) at (c .before .before .before .before .before .search .ensures),
+    let found = c .before .before .before in
+    let call = found .before .before in
+    let test = filled call in
+    let given = start (test .before) .pre in (
+      given .0,
+      given .1 .grows,
+      given .2,
+      eqb-false _ _ (sym (test .before .is-empty .ensures) ∙ test .if1 .left),
+      rw (found .at .given .1) at (call .search .ensures),
     )
 
 same-length-2 : tie.Need-same-length-2

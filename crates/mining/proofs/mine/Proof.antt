@@ -3,8 +3,9 @@
 use Prim.Native.Nat.{ℕ, _-_}
 use lib.ListN.{length-replicate}
 use borrow.Author.Needs.{needs}
+use mathlib.Core.Path.{subst}
 use Rattle.model.specs.Lists.{rowsAt}
-use Rattle.mining.specs.Mining.{Seen}
+use Rattle.mining.specs.Mining.{Seen, Adds}
 use Rattle.mining.proofs.Users.{Mining, mining-none, mining-table, mining-all, mining-more, mining-full}
 use Rattle.stores.proofs.Stores.{blank}
 use Rattle.mining.proofs.Seeing.{seen-none}
@@ -17,6 +18,13 @@ Inv-loop crew at n table₀ seen₀ end count₀ i₀ table seen count i = Minin
 
 abbrev μ-loop : tie.MeasureT-loop
 μ-loop crew at n table₀ seen₀ end count₀ i₀ table seen count i = end - i
+
+-- the places that the answers look back to
+abbrev loaded : tie.After-add-row Inv-loop μ-loop → tie.After-load256 Inv-loop μ-loop
+loaded c = c .before .before .before
+
+abbrev added : tie.After-seen2 Inv-loop μ-loop → tie.After-add-row Inv-loop μ-loop
+added c = c .before .before .before
 
 mul-end : tie.Need-mul-end Inv-loop μ-loop
 mul-end c = search needs
@@ -52,8 +60,10 @@ same-length c = search needs
 
 returns : tie.Need-returns Inv-loop μ-loop
 returns c =
-    mining-full _ _ _ _ (c .before .before .before .before .before .before .before .before .before .before .loop .inv .0) _ (c .before .before .before .before .before .before .before .before .load256 .ensures) (c .before .before .before .before .before .before .before .before .before .loop-test .taken)
-    (rw (c .enum-told .given .1) at (c .before .before .before .before .before .add-row .ensures))
+    let call = added (c .before .before) in
+    let load = loaded call in
+    mining-full _ _ _ _ (load .before .before .loop .inv .0) _ (load .load256 .ensures) (load .before .loop-test .taken)
+    (subst (Adds _ _ _) (c .enum-told .given .1) (call .add-row .ensures))
 
 add-i : tie.Need-add-i Inv-loop μ-loop
 add-i c = search needs
@@ -63,8 +73,10 @@ loop-less c = search needs
 
 loop-again : tie.Need-loop-again Inv-loop μ-loop
 loop-again c =
-    let new = rw (c .before .k .given .1) at (c .before .before .before .before .before .before .add-row .ensures) in (
-      mining-more _ _ _ _ (c .before .before .before .before .before .before .before .before .before .before .before .loop .inv .0) _ (c .before .before .before .before .before .before .before .before .before .load256 .ensures) (c .before .before .before .before .before .before .before .before .before .before .loop-test .taken) (new .0)
+    let call = added (c .before .before .before) in
+    let load = loaded call in
+    let new = subst (Adds _ _ _) (c .before .k .given .1) (call .add-row .ensures) in (
+      mining-more _ _ _ _ (load .before .before .loop .inv .0) _ (load .load256 .ensures) (load .before .loop-test .taken) (new .0)
           (λ w. c .before .before .before .before .slice-known2 .given w .fits),
       seen-held (new .0) (new .1),
     )

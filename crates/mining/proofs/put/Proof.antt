@@ -20,8 +20,9 @@ same-length c = search needs
 
 returns-2 : tie.Need-returns-2
 returns-2 c =
-    let start = c .before .before .before .before .before .before in
-    holds-new _ _ (start .pre .1) (start .pre .0) (c .before .before .before .before .if1 .left) (c .before .before .insert .ensures) (omega arith)
+    let room = c .before .before .before .before in
+    let given = room .before .before .pre in
+    holds-new _ _ (given .1) (given .0) (room .if1 .left) (c .before .before .insert .ensures) (omega arith)
 
 pub put-spec : {M : Type 1} → statement M
 put-spec = tie.close (tie.spec returns insert-requires add-t9 same-length returns-2)

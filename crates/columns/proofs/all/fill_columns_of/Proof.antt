@@ -32,8 +32,9 @@ fill-word-requires c κs = (search needs, search needs, search needs, omega arit
 
 loop-again : tie.Need-loop-again Inv-loop μ-loop
 loop-again c =
-    let a = c .before .before .before .before .before .before .before .before .args in
-    let l = c .before .before .before .before .before .loop in
+    let at-loop = c .before .before .before .before .before in
+    let l = at-loop .loop in
+    let a = at-loop .before .before .before .args in
     let now : min (64 * l .j) (a .c) ≡ 64 * l .j = omega arith in
     let next : 64 * l .j + min (a .c - 64 * l .j) 64 ≡ min (64 * (l .j + 1)) (a .c) = omega arith in
     (omega arith, omega arith, rw next at (c .before .before .fill-word .ensures (a .out .now) (rw now at (l .inv .2))))

@@ -21,6 +21,16 @@ Inv-loop table n c out₀ k₀ out k = (k ≤ c) × (length out ≡ 256) × (Fil
 abbrev μ-loop : tie.MeasureT-loop
 μ-loop table n c out₀ k₀ out k = c - k
 
+-- the places that the answers look back to
+abbrev start : tie.At-loop Inv-loop μ-loop → tie.Start Inv-loop μ-loop
+start c = c .before .before .before
+
+abbrev at-loop : tie.After-column Inv-loop μ-loop → tie.At-loop Inv-loop μ-loop
+at-loop c = c .before .before .before
+
+abbrev read : tie.After-slice-known2 Inv-loop μ-loop → tie.After-column Inv-loop μ-loop
+read c = c .before .before .before
+
 loop-holds : tie.Need-loop-holds Inv-loop μ-loop
 loop-holds c = (search needs, search needs, filled-none 2 _ _)
 
@@ -41,16 +51,17 @@ loop-less c = search needs
 
 loop-again : tie.Need-loop-again Inv-loop μ-loop
 loop-again c =
-    let small : set128 (c .before .before .before .column .result) < 2 ^ 128 = search (words, held128) in
-    let room = c .before .before .before .before .before .before .loop .inv in
-    (search needs, omega arith, rw (c .before .before .store128 .ensures) (filled-more 2 _ _ _ (c .before .before .before .before .before .before .before .before .before .args .out .now) (c .before .before .before .before .before .before .loop .out) (room .2) (omega arith) small (c .before .before .before .column .ensures)))
+    let small : set128 (read c .column .result) < 2 ^ 128 = search (words, held128) in
+    let l = at-loop (read c) .loop in
+    let out = start (at-loop (read c)) .args .out .now in
+    (search needs, omega arith, rw (c .before .before .store128 .ensures) (filled-more 2 _ _ _ out (l .out) (l .inv .2) (omega arith) small (read c .column .ensures)))
 
 same-length : tie.Need-same-length Inv-loop μ-loop
 same-length c = omega arith
 
 returns : tie.Need-returns Inv-loop μ-loop
 returns c =
-    let e : c .before .loop .k ≡ c .before .before .before .before .args .c = omega arith in
+    let e : c .before .loop .k ≡ start (c .before) .args .c = omega arith in
     rw e at (c .before .loop .inv .2)
 
 pub fill-few-columns-spec : {M : Type 1} → statement M

@@ -3,7 +3,7 @@
 use borrow.Author.Needs.{needs}
 use mathlib.Core.Path.{_≡_}
 use native.Mathlib.Omega.{arith}
-use Prim.Native.Nat.{_+_, _-_, _*_, _≤_}
+use Prim.Native.Nat.{_+_, _-_, _*_, _≤_, _<_}
 use lib.ListN.{length, getD, length-set}
 use Rattle.columns.specs.Shuffles.{Loaded}
 use Rattle.columns.proofs.Gathering.{loaded-none, loaded-more}
@@ -16,6 +16,13 @@ Inv-loop table w from count j block₀ q₀ block q = (q ≤ count) × (length b
 abbrev μ-loop : tie.MeasureT-loop
 μ-loop table w from count j block₀ q₀ block q = count - q
 
+-- the word that is read is in the table
+abbrev start : tie.In-loop Inv-loop μ-loop → tie.Start Inv-loop μ-loop
+start c = c .before .before
+
+room : (c : tie.In-loop Inv-loop μ-loop) → start c .args .w * (start c .args .from + c .before .loop .q) + start c .args .j < length (start c .args .table .now)
+room c = start c .pre .3 (c .before .loop .q) (search needs)
+
 loop-holds : tie.Need-loop-holds Inv-loop μ-loop
 loop-holds c = (search needs, search needs, loaded-none _ _)
 
@@ -23,16 +30,16 @@ add-block : tie.Need-add-block Inv-loop μ-loop
 add-block c = search needs
 
 mul-block : tie.Need-mul-block Inv-loop μ-loop
-mul-block c = let room = c .before .before .pre .3 (c .before .loop .q) (search needs) in omega arith
+mul-block c = omega (arith, room c)
 
 add-block-2 : tie.Need-add-block-2 Inv-loop μ-loop
-add-block-2 c = let room = c .before .before .pre .3 (c .before .loop .q) (search needs) in omega arith
+add-block-2 c = omega (arith, room c)
 
 mul-block-2 : tie.Need-mul-block-2 Inv-loop μ-loop
-mul-block-2 c = let room = c .before .before .pre .3 (c .before .loop .q) (search needs) in omega arith
+mul-block-2 c = omega (arith, room c)
 
 shared-slice-read-block : tie.Need-shared-slice-read-block Inv-loop μ-loop
-shared-slice-read-block c = c .before .before .before .pre .3 (c .before .before .loop .q) (search needs)
+shared-slice-read-block c = room (c .before)
 
 mul-block-3 : tie.Need-mul-block-3 Inv-loop μ-loop
 mul-block-3 c = search needs

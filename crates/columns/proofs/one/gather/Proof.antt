@@ -3,8 +3,8 @@
 use borrow.Author.Needs.{needs}
 use mathlib.Core.Path.{_≡_, sym, _∙_}
 use native.Mathlib.Omega.{arith}
-use Prim.Native.Nat.{_+_, _-_, _*_, _≤_}
-use lib.ListN.{getD}
+use Prim.Native.Nat.{_+_, _-_, _*_, _≤_, _<_}
+use lib.ListN.{length, getD}
 use Rattle.sets.specs.Sets.{has, collect}
 use Rattle.sets.proofs.Order.{collect-zero, collect-bit}
 use Rattle.sets.proofs.Written.{test-item}
@@ -17,6 +17,14 @@ Inv-loop table w from count j b bits₀ q₀ bits q = (q ≤ count) × (bits ≡
 abbrev μ-loop : tie.MeasureT-loop
 μ-loop table w from count j b bits₀ q₀ bits q = count - q
 
+-- the places that the answers look back to
+abbrev start : tie.In-loop Inv-loop μ-loop → tie.Start Inv-loop μ-loop
+start c = c .before .before .before
+
+-- the word that is read is in the table
+room : (c : tie.In-loop Inv-loop μ-loop) → start c .args .w * (start c .args .from + c .before .loop .q) + start c .args .j < length (start c .args .table .now)
+room c = start c .pre .3 (c .before .loop .q) (search needs)
+
 loop-holds : tie.Need-loop-holds Inv-loop μ-loop
 loop-holds c = (search needs, sym (collect-zero _))
 
@@ -24,16 +32,16 @@ add-with-bit : tie.Need-add-with-bit Inv-loop μ-loop
 add-with-bit c = search needs
 
 mul-with-bit : tie.Need-mul-with-bit Inv-loop μ-loop
-mul-with-bit c = let room = c .before .before .before .pre .3 (c .before .loop .q) (search needs) in omega arith
+mul-with-bit c = omega (arith, room c)
 
 add-with-bit-2 : tie.Need-add-with-bit-2 Inv-loop μ-loop
-add-with-bit-2 c = let room = c .before .before .before .pre .3 (c .before .loop .q) (search needs) in omega arith
+add-with-bit-2 c = omega (arith, room c)
 
 mul-with-bit-2 : tie.Need-mul-with-bit-2 Inv-loop μ-loop
-mul-with-bit-2 c = let room = c .before .before .before .pre .3 (c .before .loop .q) (search needs) in omega arith
+mul-with-bit-2 c = omega (arith, room c)
 
 shared-slice-read-with-bit : tie.Need-shared-slice-read-with-bit Inv-loop μ-loop
-shared-slice-read-with-bit c = c .before .before .before .before .pre .3 (c .before .before .loop .q) (search needs)
+shared-slice-read-with-bit c = room (c .before)
 
 shr-with-bit : tie.Need-shr-with-bit Inv-loop μ-loop
 shr-with-bit c = search needs

@@ -46,7 +46,14 @@ same-length c = search needs
 
 returns : tie.Need-returns
 returns c =
-    six-transpose _ _ _ _ _ _ _ (c .before .before .before .before .before .before .before .before .before .before .before .before .before .before .before .before .before .before .before .before .before .before .before .before .shuffle .ensures) (c .before .before .before .before .before .before .before .before .before .before .before .before .before .before .before .before .before .before .before .before .shuffle2 .ensures) (c .before .before .before .before .before .before .before .before .before .before .before .before .before .before .before .shuffle3 .ensures) (c .before .before .before .before .before .before .before .before .before .before .before .shuffle4 .ensures) (c .before .before .before .before .before .before .shuffle5 .ensures) (c .before .before .shuffle6 .ensures)
+    let sixth = c .before .before in
+    let fifth = sixth .before .before .before .before in
+    let fourth = fifth .before .before .before .before .before in
+    let third = fourth .before .before .before .before in
+    let second = third .before .before .before .before .before in
+    let first = second .before .before .before .before in
+    six-transpose _ _ _ _ _ _ _ (first .shuffle .ensures) (second .shuffle2 .ensures) (third .shuffle3 .ensures)
+    (fourth .shuffle4 .ensures) (fifth .shuffle5 .ensures) (sixth .shuffle6 .ensures)
 
 pub transpose-spec : {M : Type 1} → statement M
 transpose-spec =

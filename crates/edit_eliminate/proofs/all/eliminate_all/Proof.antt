@@ -18,8 +18,18 @@ use Rattle.edit_eliminate.proofs.Running.{ended-at-once, permissions-fe
 use Rattle.edit_eliminate.proofs.all.eliminate_all.Statement.{statement}
 use Rattle.edit_eliminate.proofs.all.eliminate_all.Tie as tie
 
+-- the places that the answers look back to
+abbrev entry : tie.After-slice-known5 → tie.Start
+entry c = c .before .before .before .before .before
+
 abbrev start : tie.After-fill-holders → tie.Start
-start c = c .before .before .before .before .before .before .before .before .before
+start c = entry (c .before .before .before .before)
+
+abbrev weighed-at : tie.After-strikable-roles → tie.After-weigh
+weighed-at c = c .before .before .before
+
+abbrev listed-at : tie.After-fill-order-arg2 → tie.After-strikable-roles
+listed-at c = c .before .before .before .before
 
 -- the index with the holders of all permissions
 held : (c : tie.After-fill-holders) → Indexed (rolesOf (stateOf (start c .args .rec .now))) (c .fill-holders .last .1 .0) × AllHolders (rolesOf (stateOf (start c .args .rec .now))) (c .fill-holders .last .1 .0)
@@ -28,13 +38,13 @@ held c =
     (c .fill-holders .ensures .1 _ (ready .indexed), all-held _ _ _ ready (c .fill-holders .last .1 .0) _ _ refl (c .before .below .ensures) (c .fill-holders .ensures .0))
 
 abbrev filled : tie.After-strikable-roles → tie.After-fill-holders
-filled c = c .before .before .before .before .before .before
+filled c = weighed-at c .before .before .before
 
 -- the first turn
 abbrev turn : tie.After-strikable-roles → Turn
 turn c =
     record {
-      progress = record { counts = start (filled c) .args .counts; quality = c .before .before .before .weigh .result; changed = 0; examined = 0 };
+      progress = record { counts = start (filled c) .args .counts; quality = weighed-at c .weigh .result; changed = 0; examined = 0 };
       worklist = c .strikable-roles .result;
     }
 
@@ -46,7 +56,7 @@ first : (c : tie.After-strikable-roles)
 first c =
     let given = start (filled c) .pre in
     let index = held (filled c) in
-    let weighed = c .before .before .before .weigh .ensures in
+    let weighed = weighed-at c .weigh .ensures in
     first-turn _ _ _ (given .0) _ (index .0) (index .1) _ (turn c) (given .1 .1 .0) (weighed .0) (weighed .1) refl refl (c .strikable-roles .ensures)
 
 slice-read-m : tie.Need-slice-read-m
@@ -59,10 +69,12 @@ below-requires : tie.Need-below-requires
 below-requires c κs = search needs
 
 fill-holders-requires : tie.Need-fill-holders-requires
-fill-holders-requires c κs = (search needs, (search needs, ready-few _ _ _ (c .before .before .before .before .before .before .before .before .pre .0)))
+fill-holders-requires c κs = (search needs, (search needs, ready-few _ _ _ (entry (c .before .before .before) .pre .0)))
 
 weigh-requires : tie.Need-weigh-requires
-weigh-requires c κs = let given = c .before .before .before .before .before .before .before .before .before .before .before .pre in (ready-weighed _ _ _ (given .0) _ (given .1 .1 .0), given .1 .0 .weights)
+weigh-requires c κs =
+    let given = start (c .before .before) .pre in
+    (ready-weighed _ _ _ (given .0) _ (given .1 .1 .0), given .1 .0 .weights)
 
 strikable-roles-requires : tie.Need-strikable-roles-requires
 strikable-roles-requires c κs = search needs
@@ -82,15 +94,16 @@ returns c =
 
 fill-order-requires : tie.Need-fill-order-requires
 fill-order-requires c κs =
-    let held-here = held (c .before .before .before .before .before .before .before .before .before .before) in
-    let ready = start (c .before .before .before .before .before .before .before .before .before .before) .pre .0 in
+    let held-here = held (filled (listed-at c)) in
+    let ready = start (filled (listed-at c)) .pre .0 in
     (index-of _ _ _ ready _ (held-here .0) (held-here .1), (permissions-few _ _ _ ready, search needs))
 
 run-passes-requires : tie.Need-run-passes-requires
 run-passes-requires c κs =
-    let listed = c .before .before .before .before .before .before .before .before .before .before in
+    let order = c .before .before .before .before .before in
+    let listed = listed-at (order .before) in
     let given = start (filled listed) .pre in
-    let ordered = c .before .before .before .before .before .fill-order in
+    let ordered = order .fill-order in
     let index = held (filled listed) in
     (rw (ordered .ensures .0) (first listed), (given .1 .0, (all-prepared _ _ _ (given .0) _ (index .0) (index .1) _ _ _ refl refl (ordered .ensures .1), (given .1 .1 .1 .0, (search needs, search needs)))))
 

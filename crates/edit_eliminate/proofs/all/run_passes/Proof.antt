@@ -21,18 +21,39 @@ Inv-loop rec₀ index work₀ terms left₀ run₀ counted₀ rec work left run 
 abbrev μ-loop : tie.MeasureT-loop
 μ-loop rec₀ index work₀ terms left₀ run₀ counted₀ rec work left run counted = left
 
+-- the places that the answers look back to
+abbrev start : tie.After-slice-known3 Inv-loop μ-loop → tie.Start Inv-loop μ-loop
+start c = c .before .before .before .before
+
+abbrev begun : tie.At-loop Inv-loop μ-loop → tie.Start Inv-loop μ-loop
+begun c = start (c .before .before)
+
+abbrev at-loop : tie.Else1 Inv-loop μ-loop → tie.At-loop Inv-loop μ-loop
+at-loop c = c .before .before .before
+
+abbrev tested : tie.After-pass-arg2 Inv-loop μ-loop → tie.Else1 Inv-loop μ-loop
+tested c = c .before .before
+
+abbrev handed : tie.After-struct-known2 Inv-loop μ-loop → tie.After-rec Inv-loop μ-loop
+handed c = c .before .before .before .before .before
+
+abbrev passed : tie.After-struct-known2 Inv-loop μ-loop → tie.After-pass Inv-loop μ-loop
+passed c = handed c .before
+
 -- a pass has roles to take up
-listed : (c : tie.Else1 Inv-loop μ-loop) → set128 (c .before .before .before .loop .run .worklist) ≢ 0
+listed : (c : tie.Else1 Inv-loop μ-loop) → set128 (at-loop c .loop .run .worklist) ≢ 0
 listed c e = So-not (c .if1 .left) (c .before .is-empty .ensures ∙ eqb-iff _ _ .1 e)
 
 slice-read-left : tie.Need-slice-read-left Inv-loop μ-loop
 slice-read-left c = search needs
 
 add-left : tie.Need-add-left Inv-loop μ-loop
-add-left c = let few = ready-few _ _ _ (c .before .before .before .before .pre .0 .underway .in-step .ready) in omega arith
+add-left c = let few = ready-few _ _ _ (start c .pre .0 .underway .in-step .ready) in omega arith
 
 loop-holds : tie.Need-loop-holds Inv-loop μ-loop
-loop-holds c = let given = c .before .before .before .before .before .pre in (search needs, search needs, running-start _ _ _ _ _ _ (given .0) (given .1 .1 .0) refl)
+loop-holds c =
+    let given = start (c .before) .pre in
+    (search needs, search needs, running-start _ _ _ _ _ _ (given .0) (given .1 .1 .0) refl)
 
 is-empty-requires : tie.Need-is-empty-requires Inv-loop μ-loop
 is-empty-requires c κs = search needs
@@ -49,32 +70,34 @@ returns c =
 
 pass-requires : tie.Need-pass-requires Inv-loop μ-loop
 pass-requires c κs =
-    let inv = c .before .before .before .before .before .loop .inv in
-    let some = c .before .before .before .before .loop-test .taken in
+    let loop = at-loop (tested c) in
+    let inv = loop .loop .inv in
+    let some = tested c .before .before .loop-test .taken in
     let room = inv .2 .room in
-    (inv .2 .underway, (c .before .before .before .before .before .before .before .before .before .before .before .pre .1 .0, (inv .2 .prepared, (inv .2 .counts, (inv .0, (search needs, (inv .1, omega arith)))))))
+    (inv .2 .underway, (begun loop .pre .1 .0, (inv .2 .prepared, (inv .2 .counts, (inv .0, (search needs, (inv .1, omega arith)))))))
 
 same-length-3 : tie.Need-same-length-3 Inv-loop μ-loop
 same-length-3 c =
-    let passed = c .before .before .before .before .before .before .before .before in
-    let loop = passed .before .before .before .before .before .before in
+    let done = passed (c .before .before) in
+    let loop = at-loop (tested (done .before)) in
     let size = loop .loop .inv .0 in
-    let first = loop .before .before .before .before .before .before .pre .1 .1 .1 .0 in
-    omega (arith, passed .pass .kept)
+    let first = begun loop .pre .1 .1 .1 .0 in
+    omega (arith, done .pass .kept)
 
 same-length-4 : tie.Need-same-length-4 Inv-loop μ-loop
 same-length-4 c =
-    let passed = c .before .before .before .before .before .before .before .before in
-    let loop = passed .before .before .before .before .before .before in
+    let done = passed (c .before .before) in
+    let loop = at-loop (tested (done .before)) in
     let size = loop .loop .inv .1 in
-    let first = loop .before .before .before .before .before .before .pre .1 .1 .1 .1 .1 in
-    omega (arith, passed .pass .kept)
+    let first = begun loop .pre .1 .1 .1 .1 .1 in
+    omega (arith, done .pass .kept)
 
 returns-2 : tie.Need-returns-2 Inv-loop μ-loop
 returns-2 c =
-    let passed = c .before .before .before .before .before .before .before .before in
-    let loop = passed .before .before .before .before .before .before in
-    running-last _ _ _ _ _ _ _ _ (loop .loop .inv .2) (passed .before .before .before .before .before .loop-test .taken) (listed (passed .before .before .before)) _ (passed .pass .last .1 .1 .0) _ (passed .pass .ensures .0) (c .before .if2 .taken)
+    let done = passed (c .before .before) in
+    let test = tested (done .before) in
+    let loop = at-loop test in
+    running-last _ _ _ _ _ _ _ _ (loop .loop .inv .2) (test .before .before .loop-test .taken) (listed test) _ (done .pass .last .1 .1 .0) _ (done .pass .ensures .0) (c .before .if2 .taken)
 
 strikable-roles-requires : tie.Need-strikable-roles-requires Inv-loop μ-loop
 strikable-roles-requires c κs = search needs
@@ -87,9 +110,14 @@ loop-less c = search needs
 
 loop-again : tie.Need-loop-again Inv-loop μ-loop
 loop-again c =
-    let passed = c .before .before .before .before .before .before .before .before .before in
-    let loop = passed .before .before .before .before .before .before in
-    (search needs, search needs, running-more _ _ _ _ _ _ _ _ (loop .loop .inv .2) (passed .before .before .before .before .before .loop-test .taken) (listed (passed .before .before .before)) _ _ _ (passed .pass .ensures .0) (c .before .before .if2 .left) (passed .pass .ensures .1) _ (c .strikable-roles .ensures))
+    let done = passed (c .before .before .before) in
+    let test = tested (done .before) in
+    let loop = at-loop test in (
+      search needs,
+      search needs,
+      running-more _ _ _ _ _ _ _ _ (loop .loop .inv .2) (test .before .before .loop-test .taken) (listed test) _ _ _ (done .pass .ensures .0) (c .before .before .if2 .left) (done .pass .ensures .1)
+          _ (c .strikable-roles .ensures),
+    )
 
 same-length-5 : tie.Need-same-length-5 Inv-loop μ-loop
 same-length-5 c = search needs

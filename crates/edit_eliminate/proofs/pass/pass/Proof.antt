@@ -9,18 +9,27 @@ use Rattle.edit_eliminate.proofs.Taking.{ranks-asked, ranks-filled}
 use Rattle.edit_eliminate.proofs.pass.pass.Statement.{statement}
 use Rattle.edit_eliminate.proofs.pass.pass.Tie as tie
 
+-- the places that the answers look back to
+abbrev start : tie.After-fill-ranks-arg → tie.Start
+start c = c .before .before .before .before .before
+
+abbrev ranked : tie.After-take-up-all-arg2 → tie.After-fill-ranks
+ranked c = c .before .before .before .before
+
 slice-read-c : tie.Need-slice-read-c
 slice-read-c c = search needs
 
 fill-ranks-requires : tie.Need-fill-ranks-requires
-fill-ranks-requires c κs = let given = c .before .before .before .before .before .pre in ranks-asked _ _ _ _ _ _ (given .0) (given .1 .1 .0) (given .0 .listed) refl
+fill-ranks-requires c κs =
+    let given = start c .pre in
+    ranks-asked _ _ _ _ _ _ (given .0) (given .1 .1 .0) (given .0 .listed) refl
 
 take-up-all-requires : tie.Need-take-up-all-requires
 take-up-all-requires c κs =
-    let ranked = c .before .before .before .before .fill-ranks in
-    let given = c .before .before .before .before .before .before .before .before .before .before .pre in
-    let size : length (ranked .last .0) ≡ workLength = omega arith in
-    let filled = ranks-filled _ _ _ _ _ _ (given .0) (given .1 .1 .0) (given .0 .listed) refl _ _ size (given .1 .1 .1 .0) (ranked .ensures .0) (ranked .ensures .1) in
+    let ranks = ranked c .fill-ranks in
+    let given = start (ranked c .before) .pre in
+    let size : length (ranks .last .0) ≡ workLength = omega arith in
+    let filled = ranks-filled _ _ _ _ _ _ (given .0) (given .1 .1 .0) (given .0 .listed) refl _ _ size (given .1 .1 .1 .0) (ranks .ensures .0) (ranks .ensures .1) in
     (filled .0, (given .1 .0, (filled .1, (filled .2, (search needs, (search needs, (size, search needs)))))))
 
 same-length : tie.Need-same-length

@@ -22,21 +22,31 @@ Inv-loop rec₀ index work₀ terms run₀ todo₀ top₀ rec work run todo top 
 abbrev μ-loop : tie.MeasureT-loop
 μ-loop rec₀ index work₀ terms run₀ todo₀ top₀ rec work run todo top = ones (set128 todo)
 
+-- the places that the answers look back to
+abbrev begun : tie.After-slice-known3 Inv-loop μ-loop → tie.Start Inv-loop μ-loop
+begun c = c .before .before .before .before .before
+
+abbrev at-loop : tie.After-foremost Inv-loop μ-loop → tie.At-loop Inv-loop μ-loop
+at-loop c = c .before .before .before .before .before
+
+abbrev taken : tie.After-remove Inv-loop μ-loop → tie.After-take-up Inv-loop μ-loop
+taken c = c .before .before .before .before .before
+
 -- after a turn: the role that was next, where the turn began, and what is then left
 abbrev front : tie.After-remove Inv-loop μ-loop → tie.After-foremost Inv-loop μ-loop
-front c = c .before .before .before .before .before .before .before .before
+front c = taken c .before .before .before
 
 abbrev loop : tie.After-remove Inv-loop μ-loop → tie.At-loop Inv-loop μ-loop
-loop c = front c .before .before .before .before .before
+loop c = at-loop (front c)
 
 abbrev start : tie.After-remove Inv-loop μ-loop → tie.Start Inv-loop μ-loop
-start c = loop c .before .before .before .before .before .before
+start c = begun (loop c .before)
 
 fewer-left : (c : tie.After-remove Inv-loop μ-loop)
-    → Taking (start c .args .rec .now) (start c .args .index .now) (start c .args .terms) (start c .args .turn) (c .before .before .before .before .before .take-up .last .0)
-    (c .before .before .before .before .before .take-up .last .1 .1 .0 ++ drop downStart (loop c .loop .work)) (c .before .before .before .before .before .take-up .result) (set128 (c .remove .result)) (front c .foremost .result .rank)
+    → Taking (start c .args .rec .now) (start c .args .index .now) (start c .args .terms) (start c .args .turn) (taken c .take-up .last .0)
+    (taken c .take-up .last .1 .1 .0 ++ drop downStart (loop c .loop .work)) (taken c .take-up .result) (set128 (c .remove .result)) (front c .foremost .result .rank)
 fewer-left c =
-    let turn = c .before .before .before .before .before .take-up in
+    let turn = taken c .take-up in
     let inv = loop c .loop .inv .1 in
     taking-more _ _ _ _ _ _ _ _ _ inv _ _ (front c .foremost .ensures) _ _ _ _ _ (turn .ensures)
     (part-back _ 0 downStart _ (turn .ensures .underway .in-step .ready .linked .size) (rw (inv .prepared .reach .size) (omega arith))) (c .remove .ensures)
@@ -45,7 +55,9 @@ slice-read-top : tie.Need-slice-read-top Inv-loop μ-loop
 slice-read-top c = search needs
 
 loop-holds : tie.Need-loop-holds Inv-loop μ-loop
-loop-holds c = let given = c .before .before .before .before .before .pre in (search needs, taking-start _ _ _ _ _ _ refl (given .0) (given .1 .1 .0) (given .1 .1 .1 .0))
+loop-holds c =
+    let given = begun c .pre in
+    (search needs, taking-start _ _ _ _ _ _ refl (given .0) (given .1 .1 .0) (given .1 .1 .1 .0))
 
 is-empty-requires : tie.Need-is-empty-requires Inv-loop μ-loop
 is-empty-requires c κs = search needs
@@ -74,8 +86,8 @@ part-take-up-end c = search needs
 
 take-up-requires : tie.Need-take-up-requires Inv-loop μ-loop
 take-up-requires c κs =
-    let given = c .before .before .before .before .before .before .before .before .before .before .before .before .before .pre in
-    let inv = c .before .before .before .before .before .before .before .loop .inv in
+    let given = begun (at-loop (c .before .before) .before) .pre in
+    let inv = at-loop (c .before .before) .loop .inv in
     let next = c .before .before .foremost .ensures in
     (inv .1 .underway, (given .1 .0, (inv .1 .standing _ (next .there), (inv .0, (search needs, (search needs, (next .small, taking-bound _ _ _ _ _ _ _ _ _ (inv .1) _ _ (next .there) (given .0) (given .1 .1 .1 .1 .1 .1 .1))))))))
 

@@ -9,8 +9,24 @@ use Rattle.edit_eliminate.proofs.Turns.{turn-dropped, turn-stayed, turn
 use Rattle.edit_eliminate.proofs.turn.take_up.Statement.{statement}
 use Rattle.edit_eliminate.proofs.turn.take_up.Tie as tie
 
+-- the places that the answers look back to
+abbrev entry : tie.After-at → tie.Start
+entry c = c .before .before .before .before
+
 abbrev start : tie.After-removable → tie.Start
-start c = c .before .before .before .before .before .before .before .before .before
+start c = entry (c .before .before .before .before .before)
+
+abbrev asked : tie.After-counts → tie.After-removable
+asked c = c .before .before .before .before .before
+
+abbrev judged : tie.Else2 → tie.After-counts
+judged c = c .before .before .before
+
+abbrev decided : tie.After-take-out-at → tie.Else2
+decided c = c .before .before .before
+
+abbrev written : tie.After-struct-known2 → tie.After-take-out-at
+written c = c .before .before .before .before .before
 
 add-examined : tie.Need-add-examined
 add-examined c = search needs
@@ -26,9 +42,9 @@ same-length c = search needs
 
 returns : tie.Need-returns
 returns c =
-    let asked = c .before .before in
-    let given = start asked .pre in
-    turn-dropped _ _ _ _ _ _ (given .0) _ (given .1 .1 .0) (asked .removable .ensures) (not-true _ (c .before .if1 .taken)) _ refl (c .remove .ensures)
+    let ask = c .before .before in
+    let given = start ask .pre in
+    turn-dropped _ _ _ _ _ _ (given .0) _ (given .1 .1 .0) (ask .removable .ensures) (not-true _ (c .before .if1 .taken)) _ refl (c .remove .ensures)
 
 if-struck-requires : tie.Need-if-struck-requires
 if-struck-requires c κs =
@@ -37,12 +53,12 @@ if-struck-requires c κs =
 
 weigh-requires : tie.Need-weigh-requires
 weigh-requires c κs =
-    let given = start (c .before .before .before .before .before) .pre in
+    let given = start (asked c) .pre in
     (trial-few _ _ _ (given .0 .in-step .ready) _ (strike-below _ _ _ (given .0 .in-step .ready) _) _ (c .before .if-struck .ensures .counts), given .1 .0 .weights)
 
 tolerated-requires : tie.Need-tolerated-requires
 tolerated-requires c κs =
-    let given = start (c .before .before .before .before .before .before) .pre in
+    let given = start (asked (c .before)) .pre in
     (given .1 .0 .tolerance, (c .weigh .ensures .1, given .0 .quality-small))
 
 same-length-2 : tie.Need-same-length-2
@@ -54,18 +70,19 @@ same-length-3 c = search needs
 returns-2 : tie.Need-returns-2
 returns-2 c =
     let trial = c .before .before .before .before in
-    let asked = trial .before .before .before .before in
-    let given = start asked .pre in
-    turn-stayed _ _ _ _ _ _ (given .0) _ (given .1 .1 .0) (asked .removable .ensures) (not-false _ (trial .before .before .before .if1 .left)) _ (trial .if-struck .ensures) _ (c .before .before .weigh .ensures .0) _ (c .before .tolerated .ensures) (not-true _ (c .if2 .taken)) _ refl refl
+    let ask = asked (c .before .before .before) in
+    let given = start ask .pre in
+    turn-stayed _ _ _ _ _ _ (given .0) _ (given .1 .1 .0) (ask .removable .ensures) (not-false _ (trial .before .before .before .if1 .left)) _ (trial .if-struck .ensures)
+    _ (c .before .before .weigh .ensures .0) _ (c .before .tolerated .ensures) (not-true _ (c .if2 .taken)) _ refl refl
 
 take-out-at-requires : tie.Need-take-out-at-requires
 take-out-at-requires c κs =
-    let sizes = start (c .before .before .before .before .before .before .before .before .before .before) .pre .1 .1 .1 in
+    let sizes = start (asked (judged (c .before .before))) .pre .1 .1 .1 in
     (sizes .0, (sizes .1 .0, (sizes .1 .1 .0, sizes .1 .1 .1 .0)))
 
 add-t29 : tie.Need-add-t29
 add-t29 c =
-    let given = start (c .before .before .before .before .before .before .before .before .before .before .before .before .before .before .before .before) .pre in
+    let given = start (asked (judged (decided (written c)))) .pre in
     let fewer = given .0 .fewer in
     let few = given .1 .1 .1 .1 .1 .1 .1 in
     omega arith
@@ -81,13 +98,15 @@ same-length-5 c = search needs
 
 returns-3 : tie.Need-returns-3
 returns-3 c =
-    let written = c .before .before .before .before .before .before in
-    let decided = written .before .before .before in
-    let trial = decided .before .before .before .before in
-    let asked = trial .before .before .before .before in
-    let given = start asked .pre in
-    let made = written .take-out-at .ensures _ (given .0 .in-step .ready) (given .1 .1 .0) (trial .if-struck .ensures .neighbours) in
-    turn-struck _ _ _ _ _ _ (given .0) _ (given .1 .1 .0) (asked .removable .ensures) (not-false _ (trial .before .before .before .if1 .left)) _ (trial .if-struck .ensures) _ (decided .before .before .weigh .ensures .0) _ (decided .before .tolerated .ensures) (not-false _ (decided .if2 .left)) (decided .before .before .weigh .ensures .1) _ _ made _ refl (c .remove2 .ensures)
+    let out = written (c .before) in
+    let way = decided out in
+    let weigh = way .before .before in
+    let trial = judged way .before in
+    let ask = asked (judged way) in
+    let given = start ask .pre in
+    let made = out .take-out-at .ensures _ (given .0 .in-step .ready) (given .1 .1 .0) (trial .if-struck .ensures .neighbours) in
+    turn-struck _ _ _ _ _ _ (given .0) _ (given .1 .1 .0) (ask .removable .ensures) (not-false _ (trial .before .before .before .if1 .left)) _ (trial .if-struck .ensures)
+    _ (weigh .weigh .ensures .0) _ (way .before .tolerated .ensures) (not-false _ (way .if2 .left)) (weigh .weigh .ensures .1) _ _ made _ refl (c .remove2 .ensures)
 
 pub take-up-spec : {M : Type 1} → statement M
 take-up-spec =

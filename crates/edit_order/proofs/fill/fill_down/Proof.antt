@@ -22,6 +22,10 @@ Inv-loop low c down₀ k₀ down k = (k ≤ c) × (length down ≡ 256) × Fille
 abbrev μ-loop : tie.MeasureT-loop
 μ-loop low c down₀ k₀ down k = c - k
 
+-- the places that the answers look back to
+abbrev start : tie.At-loop Inv-loop μ-loop → tie.Start Inv-loop μ-loop
+start c = c .before .before .before
+
 loop-holds : tie.Need-loop-holds Inv-loop μ-loop
 loop-holds c = (search needs, search needs, filled-none 2 _ _)
 
@@ -54,7 +58,7 @@ loop-again c =
       search needs,
       omega arith,
       rw (c .before .before .store128 .ensures)
-          (filled-more 2 _ _ _ (turn .before .before .before .before .args .down .now) (turn .before .loop .down) (turn .before .loop .inv .2) (omega arith) small (put-self _ _ _ _ (omega arith) (put .before .load128 .ensures) (put .insert .ensures))),
+          (filled-more 2 _ _ _ (start (turn .before) .args .down .now) (turn .before .loop .down) (turn .before .loop .inv .2) (omega arith) small (put-self _ _ _ _ (omega arith) (put .before .load128 .ensures) (put .insert .ensures))),
     )
 
 same-length : tie.Need-same-length Inv-loop μ-loop
@@ -62,7 +66,7 @@ same-length c = omega arith
 
 returns : tie.Need-returns Inv-loop μ-loop
 returns c =
-    let e : c .before .loop .k ≡ c .before .before .before .before .args .c = omega arith in
+    let e : c .before .loop .k ≡ start (c .before) .args .c = omega arith in
     rw e at (c .before .loop .inv .2)
 
 pub fill-down-spec : {M : Type 1} → statement M

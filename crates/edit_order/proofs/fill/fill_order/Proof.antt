@@ -14,6 +14,16 @@ use Rattle.edit_order.proofs.Work.{reached-same, left-alone, prepared}
 use Rattle.edit_order.proofs.fill.fill_order.Statement.{statement}
 use Rattle.edit_order.proofs.fill.fill_order.Tie as tie
 
+-- the places that the answers look back to
+abbrev start : tie.After-fill-reach → tie.Start
+start c = c .before .before .before .before
+
+abbrev sampled : tie.After-fill-further-arg → tie.After-fill-samples
+sampled c = c .before .before .before
+
+abbrev reached : tie.After-fill-samples → tie.After-fill-reach
+reached c = c .before .before .before .before
+
 narrow : (c : tie.After-first-holders) → set128 (c .first-holders .result) < 2 ^ 128
 narrow c = search (words, held128)
 
@@ -25,9 +35,9 @@ fill-samples-requires c κs = search needs
 
 fill-further-requires : tie.Need-fill-further-requires
 fill-further-requires c κs =
-    let samples = c .before .before .before in
-    let reach = samples .before .before .before .before in
-    let ix = reach .before .before .before .before .pre .0 in
+    let samples = sampled c in
+    let reach = reached samples in
+    let ix = start reach .pre .0 in
     let found = samples .fill-samples .ensures .1 .1 (ix .0) (ix .1) (ix .3) in
     let size : length (samples .fill-samples .last .1 .1 .0) ≡ workLength = omega arith in
     (ix .0, found .0, reached-same 0 samplesStart (reach .fill-reach .last .1 .1 .0) _ (samples .fill-samples .ensures .1 .0) _ size (omega arith) (omega arith) (reach .fill-reach .ensures .1 (ix .0) (ix .1) (ix .2) (ix .3)), found .1)
@@ -54,9 +64,8 @@ returns : tie.Need-returns
 returns c =
     let holders = c .before .before .before in
     let further = holders .before .before .before .before .before in
-    let samples = further .before .before .before .before in
-    let reach = samples .before .before .before .before in
-    let start = reach .before .before .before .before in
+    let samples = sampled (further .before) in
+    let reach = reached samples in
     let w1 = reach .fill-reach .last .1 .1 .0 in
     let w2 = samples .fill-samples .last .1 .1 .0 in
     let w3 = further .fill-further .last .0 in
@@ -64,7 +73,7 @@ returns c =
     let kept2 = samples .fill-samples .ensures .1 .0 in
     let kept3 = further .fill-further .ensures .0 in
     let stored = c .before .before .store128 .ensures in (
-      left-alone w1 w2 w3 _ _ size kept2 kept3 stored (start .args .work .now) (start .pre .1 .1) (reach .fill-reach .ensures .0),
+      left-alone w1 w2 w3 _ _ size kept2 kept3 stored (start reach .args .work .now) (start reach .pre .1 .1) (reach .fill-reach .ensures .0),
       λ ρ ec em numbered ix held.
           prepared w1 w2 w3 _ _ size kept2 kept3 stored _ (narrow holders) ρ (reach .fill-reach .ensures .1 ρ ec numbered ix) (samples .fill-samples .ensures .1 .1 ρ ec ix)
           (further .fill-further .ensures .1) (first-found ρ _ _ _ (numbered .few) em (λ p l. held p (rw em l)) (holders .first-holders .ensures)),

@@ -48,9 +48,11 @@ same-length c = search needs
 
 returns : tie.Need-returns
 returns c =
-    let copied = c .before .before .before .before .before .before .copy in
-    let start = c .before .before .before .before .before .before .before .before .before .before .before in
-    let back = c .before .before .fill-columns in
+    let filled = c .before .before in
+    let written = filled .before .before .before .before in
+    let start = written .before .before .before .before .before in
+    let copied = written .copy in
+    let back = filled .fill-columns in
     let at = start .args .at in
     placed (start .args .table .now) (start .args .work .now) (copied .last .0) (back .last .1 .1 .1 .0) _ _ at (2 * start .args .n - 0) (at + 512 - (at + 256))
     (start .pre .0) (start .pre .1) (start .pre .2) (start .pre .3) (start .pre .4) (omega arith) (copied .ensures) (back .ensures .0) (omega arith) (omega arith)

@@ -1,7 +1,7 @@
 -- No role to do has a key above `rank`.
 -- Assumes nothing.
 use borrow.Author.Needs.{needs}
-use mathlib.Core.Path.{sym, _∙_}
+use mathlib.Core.Path.{_≡_, sym, _∙_}
 use native.Mathlib.Omega.{arith}
 use Rattle.sets_128.specs.Held.{set128}
 use Rattle.sets.proofs.Truth.{So-not, eqb-iff}
@@ -14,6 +14,14 @@ Inv-loop ranks todo top rank₀ front₀ rank front = Sinking ranks (set128 todo
 
 abbrev μ-loop : tie.MeasureT-loop
 μ-loop ranks todo top rank₀ front₀ rank front = rank
+
+-- the places that the answers look back to
+abbrev at-loop : tie.Then1 Inv-loop μ-loop → tie.At-loop Inv-loop μ-loop
+at-loop c = c .before .before
+
+-- no role of the key is left
+none-left : (c : tie.Then1 Inv-loop μ-loop) → set128 (at-loop c .loop .front) ≡ 0
+none-left c = eqb-iff _ _ .0 (sym (c .before .is-empty .ensures) ∙ c .if1 .taken)
 
 mul-load128 : tie.Need-mul-load128 Inv-loop μ-loop
 mul-load128 c = search needs
@@ -31,19 +39,21 @@ is-empty-requires : tie.Need-is-empty-requires Inv-loop μ-loop
 is-empty-requires c κs = search needs
 
 lowest-item-requires : tie.Need-lowest-item-requires Inv-loop μ-loop
-lowest-item-requires c κs = c .before .before .before .before .before .before .before .pre .1 .0
+lowest-item-requires c κs = at-loop (c .before) .before .before .before .before .pre .1 .0
 
 returns : tie.Need-returns Inv-loop μ-loop
-returns c = sinking-out _ _ _ _ _ (c .before .before .before .before .loop .inv) (eqb-iff _ _ .0 (sym (c .before .before .before .is-empty .ensures) ∙ c .before .before .if1 .taken)) _ (c .before .if2 .taken) (c .lowest-item .ensures)
+returns c =
+    let test = c .before .before in
+    sinking-out _ _ _ _ _ (at-loop test .loop .inv) (none-left test) _ (c .before .if2 .taken) (c .lowest-item .ensures)
 
 sub-rank : tie.Need-sub-rank Inv-loop μ-loop
 sub-rank c = let d = c .if2 .left in omega arith
 
 mul-load128-2 : tie.Need-mul-load128-2 Inv-loop μ-loop
-mul-load128-2 c = let s = c .before .before .before .loop .inv .low in omega arith
+mul-load128-2 c = let s = at-loop (c .before) .loop .inv .low in omega arith
 
 load128-requires-2 : tie.Need-load128-requires-2 Inv-loop μ-loop
-load128-requires-2 c κs = let s = c .before .before .before .loop .inv .low in omega arith
+load128-requires-2 c κs = let s = at-loop (c .before) .loop .inv .low in omega arith
 
 intersection-requires-2 : tie.Need-intersection-requires-2 Inv-loop μ-loop
 intersection-requires-2 c κs = search needs
@@ -52,7 +62,9 @@ loop-less : tie.Need-loop-less Inv-loop μ-loop
 loop-less c = let d = c .before .before .if2 .left in omega arith
 
 loop-again : tie.Need-loop-again Inv-loop μ-loop
-loop-again c = sinking-more _ _ _ _ _ (c .before .before .before .before .before .loop .inv) (eqb-iff _ _ .0 (sym (c .before .before .before .before .is-empty .ensures) ∙ c .before .before .before .if1 .taken)) _ _ (c .before .before .if2 .left) (c .before .load1282 .ensures) (c .intersection2 .ensures)
+loop-again c =
+    let rest = c .before .before in
+    sinking-more _ _ _ _ _ (at-loop (rest .before) .loop .inv) (none-left (rest .before)) _ _ (rest .if2 .left) (c .before .load1282 .ensures) (c .intersection2 .ensures)
 
 lowest-item-requires-2 : tie.Need-lowest-item-requires-2 Inv-loop μ-loop
 lowest-item-requires-2 c κs = λ e. So-not (c .if1 .left) (c .before .is-empty .ensures ∙ eqb-iff _ _ .1 e)

@@ -16,6 +16,16 @@ Inv-loop work₀ count all i₀ work i = FurtherFilling count work₀ work i
 abbrev μ-loop : tie.MeasureT-loop
 μ-loop work₀ count all i₀ work i = count - i
 
+-- the places that the answers look back to
+abbrev begin : tie.At-loop Inv-loop μ-loop → tie.Start Inv-loop μ-loop
+begin c = c .before .before .before
+
+abbrev start : tie.In-loop Inv-loop μ-loop → tie.Start Inv-loop μ-loop
+start c = begin (c .before)
+
+abbrev in-loop : tie.After-further-from-arg2 Inv-loop μ-loop → tie.In-loop Inv-loop μ-loop
+in-loop c = c .before .before
+
 below-requires : tie.Need-below-requires Inv-loop μ-loop
 below-requires c κs = search needs
 
@@ -23,18 +33,21 @@ loop-holds : tie.Need-loop-holds Inv-loop μ-loop
 loop-holds c = filling-start _ _ (c .before .before .pre .2 .size)
 
 mul-store128 : tie.Need-mul-store128 Inv-loop μ-loop
-mul-store128 c = let n = c .before .before .before .before .before .pre .3 .few in omega arith
+mul-store128 c = let n = start (c .before) .pre .3 .few in omega arith
 
 add-store128 : tie.Need-add-store128 Inv-loop μ-loop
-add-store128 c = let n = c .before .before .before .before .before .pre .3 .few in omega arith
+add-store128 c = let n = start (c .before) .pre .3 .few in omega arith
 
 further-from-requires : tie.Need-further-from-requires Inv-loop μ-loop
 further-from-requires c κs =
-    let turn = c .before .before in
-    filling-among _ _ _ _ _ (turn .before .before .before .before .pre) (turn .before .loop .inv) (turn .loop-test .taken) (turn .before .before .below .ensures)
+    let turn = in-loop c in
+    filling-among _ _ _ _ _ (start turn .pre) (turn .before .loop .inv) (turn .loop-test .taken) (turn .before .before .below .ensures)
 
 store128-requires : tie.Need-store128-requires Inv-loop μ-loop
-store128-requires c κs = let turn = c .before .before .before in let z = turn .before .loop .inv .size in let n = turn .before .before .before .before .pre .3 .few in omega arith
+store128-requires c κs =
+    let z = in-loop (c .before) .before .loop .inv .size in
+    let n = start (in-loop (c .before)) .pre .3 .few in
+    omega arith
 
 add-i : tie.Need-add-i Inv-loop μ-loop
 add-i c = search needs
@@ -45,13 +58,16 @@ loop-less c = search needs
 loop-again : tie.Need-loop-again Inv-loop μ-loop
 loop-again c =
     let found = c .before .before .before in
-    let turn = found .before .before .before in
+    let turn = in-loop (found .before) in
     let small : set128 (found .further-from .result) < 2 ^ 128 = search (words, held128) in
     rw (c .before .before .store128 .ensures)
-    (filling-more _ _ _ _ _ (turn .before .before .before .before .pre) (turn .before .loop .inv) (turn .loop-test .taken) (turn .before .before .below .ensures) _ small (found .further-from .ensures))
+    (filling-more _ _ _ _ _ (start turn .pre) (turn .before .loop .inv) (turn .loop-test .taken) (turn .before .before .below .ensures) _ small (found .further-from .ensures))
 
 same-length : tie.Need-same-length Inv-loop μ-loop
-same-length c = let z = c .before .loop .inv .size in let s = c .before .before .before .before .pre .2 .size in omega arith
+same-length c =
+    let z = c .before .loop .inv .size in
+    let s = begin (c .before) .pre .2 .size in
+    omega arith
 
 returns : tie.Need-returns Inv-loop μ-loop
 returns c = filling-all _ _ _ _ (c .before .loop .inv) (omega arith)

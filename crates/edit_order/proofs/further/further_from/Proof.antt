@@ -1,10 +1,14 @@
 -- Of all samples those are left that have each role of sample i that is not in `rest`.
 -- Assumes nothing.
 use borrow.Author.Needs.{needs}
+use mathlib.Core.Path.{_≡_}
+use Prim.Native.Nat.{_<_}
 use native.Mathlib.Omega.{arith}
 use lib.Count.{ones}
+use lib.ListN.{length}
 use Rattle.sets_128.specs.Held.{set128}
 use Rattle.hierarchy.proofs.Sieving.{not-empty, is-empty}
+use Rattle.edit_order.specs.Work.{workLength}
 use Rattle.edit_order.proofs.Narrowing.{Narrowing, narrowing-start, narrowing-fewer, narrowing-more, narrowing-all}
 use Rattle.edit_order.proofs.further.further_from.Statement.{statement}
 use Rattle.edit_order.proofs.further.further_from.Tie as tie
@@ -15,14 +19,27 @@ Inv-loop work i found₀ rest₀ found rest = Narrowing work (set128 found₀) i
 abbrev μ-loop : tie.MeasureT-loop
 μ-loop work i found₀ rest₀ found rest = ones (set128 rest)
 
+-- the places that the answers look back to
+abbrev start : tie.At-loop Inv-loop μ-loop → tie.Start Inv-loop μ-loop
+start c = c .before .before .before
+
+abbrev at-loop : tie.After-highest-item Inv-loop μ-loop → tie.At-loop Inv-loop μ-loop
+at-loop c = c .before .before .before
+
+abbrev item : tie.After-intersection Inv-loop μ-loop → tie.After-highest-item Inv-loop μ-loop
+item c = c .before .before
+
+placed : (c : tie.Start Inv-loop μ-loop) → (length (c .args .work .now) ≡ workLength) × (c .args .i < 128)
+placed c = let n = c .pre .samples .few in let l = c .pre .one in (c .pre .reach .size, omega arith)
+
 mul-load128 : tie.Need-mul-load128 Inv-loop μ-loop
-mul-load128 c = let s = c .before .pre .reach .size in let n = c .before .pre .samples .few in let l = c .before .pre .one in omega arith
+mul-load128 c = let f = placed (c .before) in omega arith
 
 add-load128 : tie.Need-add-load128 Inv-loop μ-loop
-add-load128 c = let s = c .before .pre .reach .size in let n = c .before .pre .samples .few in let l = c .before .pre .one in omega arith
+add-load128 c = let f = placed (c .before) in omega arith
 
 load128-requires : tie.Need-load128-requires Inv-loop μ-loop
-load128-requires c κs = let s = c .before .pre .reach .size in let n = c .before .pre .samples .few in let l = c .before .pre .one in omega arith
+load128-requires c κs = let f = placed (c .before) in omega arith
 
 loop-holds : tie.Need-loop-holds Inv-loop μ-loop
 loop-holds c = narrowing-start _ _ _ _ (c .load128 .ensures)
@@ -40,35 +57,42 @@ add-load128-2 : tie.Need-add-load128-2 Inv-loop μ-loop
 add-load128-2 c = let l = c .highest-item .ensures .small in omega arith
 
 load128-requires-2 : tie.Need-load128-requires-2 Inv-loop μ-loop
-load128-requires-2 c κs = let l = c .highest-item .ensures .small in let s = c .before .before .before .before .before .before .pre .reach .size in omega arith
+load128-requires-2 c κs =
+    let l = c .highest-item .ensures .small in
+    let s = start (at-loop c) .pre .reach .size in
+    omega arith
 
 intersection-requires : tie.Need-intersection-requires Inv-loop μ-loop
 intersection-requires c κs = search needs
 
 mul-load128-3 : tie.Need-mul-load128-3 Inv-loop μ-loop
-mul-load128-3 c = let l = c .before .before .highest-item .ensures .small in omega arith
+mul-load128-3 c = let l = item c .highest-item .ensures .small in omega arith
 
 add-load128-3 : tie.Need-add-load128-3 Inv-loop μ-loop
-add-load128-3 c = let l = c .before .before .highest-item .ensures .small in omega arith
+add-load128-3 c = let l = item c .highest-item .ensures .small in omega arith
 
 load128-requires-3 : tie.Need-load128-requires-3 Inv-loop μ-loop
-load128-requires-3 c κs = let one = c .before .before in let l = one .highest-item .ensures .small in let s = one .before .before .before .before .before .before .pre .reach .size in omega arith
+load128-requires-3 c κs =
+    let l = item c .highest-item .ensures .small in
+    let s = start (at-loop (item c)) .pre .reach .size in
+    omega arith
 
 difference-requires : tie.Need-difference-requires Inv-loop μ-loop
 difference-requires c κs = search needs
 
 loop-less : tie.Need-loop-less Inv-loop μ-loop
 loop-less c =
-    let one = c .before .before .before .before in
-    let turn = one .before .before .before in
-    rw (c .difference .ensures) (narrowing-fewer _ _ _ _ _ (turn .before .before .before .pre) (turn .loop .inv) _ (one .highest-item .ensures .there) _ (c .before .load1283 .ensures))
+    let one = item (c .before .before) in
+    let turn = at-loop one in
+    rw (c .difference .ensures) (narrowing-fewer _ _ _ _ _ (start turn .pre) (turn .loop .inv) _ (one .highest-item .ensures .there) _ (c .before .load1283 .ensures))
 
 loop-again : tie.Need-loop-again Inv-loop μ-loop
 loop-again c =
     let met = c .before .before in
-    let one = met .before .before in
-    let turn = one .before .before .before in
-    narrowing-more _ _ _ _ _ (turn .before .before .before .pre) (turn .loop .inv) _ (one .highest-item .ensures .there) _ (c .before .load1283 .ensures) _ _ _ (met .before .load1282 .ensures) (met .intersection .ensures) (c .difference .ensures)
+    let one = item met in
+    let turn = at-loop one in
+    narrowing-more _ _ _ _ _ (start turn .pre) (turn .loop .inv) _ (one .highest-item .ensures .there) _ (c .before .load1283 .ensures)
+    _ _ _ (met .before .load1282 .ensures) (met .intersection .ensures) (c .difference .ensures)
 
 returns : tie.Need-returns Inv-loop μ-loop
 returns c = narrowing-all _ _ _ _ _ (c .before .before .loop .inv) (is-empty _ _ (c .before .is-empty .ensures) (c .if1 .left))

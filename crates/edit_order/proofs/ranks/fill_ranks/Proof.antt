@@ -22,20 +22,40 @@ Inv-loop work₀ c counted end rest₀ work rest = Sorting work₀ c (set128 cou
 abbrev μ-loop : tie.MeasureT-loop
 μ-loop work₀ c counted end rest₀ work rest = ones (set128 rest)
 
+-- the places that the answers look back to
+abbrev start : tie.After-clear Inv-loop μ-loop → tie.Start Inv-loop μ-loop
+start c = c .before .before .before
+
+abbrev clear : tie.At-loop Inv-loop μ-loop → tie.After-clear Inv-loop μ-loop
+clear c = c .before .before .before
+
+abbrev at-loop : tie.After-redundancy-arg Inv-loop μ-loop → tie.At-loop Inv-loop μ-loop
+at-loop c = c .before .before .before .before
+
+abbrev turn : tie.After-redundancy Inv-loop μ-loop → tie.At-loop Inv-loop μ-loop
+turn c = at-loop (c .before)
+
+abbrev put : tie.After-remove Inv-loop μ-loop → tie.After-insert Inv-loop μ-loop
+put c = c .before .before .before .before
+
+abbrev ranked : tie.After-insert Inv-loop μ-loop → tie.After-redundancy Inv-loop μ-loop
+ranked c = c .before .before .before .before
+
 at-start : (c : tie.Start Inv-loop μ-loop) → (length (c .args .work .now) ≡ workLength) × (c .args .c ≤ 128)
 at-start c = let n = c .pre .0 .1 in let f = c .pre .0 .2 .reach .few in (c .pre .0 .2 .reach .size, omega arith)
 
 -- the ranks are cleared, and ranks are small
 blank : (c : tie.After-clear Inv-loop μ-loop)
-    → let start = c .before .before .before in
-    Cleared (start .args .c) (start .args .work .now) (putMid ranksStart (ranksStart + 2 * start .args .c + 2 - ranksStart) (start .args .work .now) (c .clear .last .0))
+    → Cleared (start c .args .c) (start c .args .work .now) (putMid ranksStart (ranksStart + 2 * start c .args .c + 2 - ranksStart) (start c .args .work .now) (c .clear .last .0))
 blank c =
-    let start = c .before .before .before in
-    let f = at-start start in
-    cleared _ (start .args .work .now) (c .clear .last .0) (f .0) (f .1) (omega arith) (c .clear .ensures)
+    let f = at-start (start c) in
+    cleared _ (start c .args .work .now) (c .clear .last .0) (f .0) (f .1) (omega arith) (c .clear .ensures)
 
 rank-small : (c : tie.After-redundancy Inv-loop μ-loop) → c .redundancy .result ≤ 128
-rank-small c = let l = c .redundancy .ensures .0 in let f = at-start (c .before .before .before .before .before .before .before .before .before .before .before) in omega arith
+rank-small c =
+    let l = c .redundancy .ensures .0 in
+    let f = at-start (start (clear (turn c))) in
+    omega arith
 
 narrow : (c : tie.After-insert Inv-loop μ-loop) → set128 (c .insert .result) < 2 ^ 128
 narrow c = search (words, held128)
@@ -72,10 +92,9 @@ lowest-item-requires c κs = not-empty _ _ (c .before .is-empty .ensures) (c .if
 
 redundancy-requires : tie.Need-redundancy-requires Inv-loop μ-loop
 redundancy-requires c κs =
-    let turn = c .before .before .before .before in
-    let clear = turn .before .before .before in
-    let start = clear .before .before .before in
-    sorting-ready _ _ _ _ _ _ (turn .loop .inv) _ (start .args .work .now) (blank clear) (start .pre .0) (start .pre .1) (c .before .lowest-item .ensures .there)
+    let loop = at-loop c in
+    let begin = start (clear loop) in
+    sorting-ready _ _ _ _ _ _ (loop .loop .inv) _ (begin .args .work .now) (blank (clear loop)) (begin .pre .0) (begin .pre .1) (c .before .lowest-item .ensures .there)
 
 mul-at : tie.Need-mul-at Inv-loop μ-loop
 mul-at c = let l = rank-small c in omega arith
@@ -84,39 +103,48 @@ add-at : tie.Need-add-at Inv-loop μ-loop
 add-at c = let l = rank-small c in omega arith
 
 load128-requires : tie.Need-load128-requires Inv-loop μ-loop
-load128-requires c κs = let rank = c .before .before in let l = rank-small rank in let z = rank .before .before .before .before .before .loop .inv .size in omega arith
+load128-requires c κs =
+    let l = rank-small (c .before .before) in
+    let z = turn (c .before .before) .loop .inv .size in
+    omega arith
 
 insert-requires : tie.Need-insert-requires Inv-loop μ-loop
 insert-requires c κs = search needs
 
 store128-requires : tie.Need-store128-requires Inv-loop μ-loop
-store128-requires c κs = let rank = c .before .before .before .before in let l = rank-small rank in let z = rank .before .before .before .before .before .loop .inv .size in omega arith
+store128-requires c κs =
+    let l = rank-small (ranked c) in
+    let z = turn (ranked c) .loop .inv .size in
+    omega arith
 
 remove-requires : tie.Need-remove-requires Inv-loop μ-loop
 remove-requires c κs = search needs
 
 loop-less : tie.Need-loop-less Inv-loop μ-loop
-loop-less c = rw (c .remove .ensures) (fewer _ _ (c .before .before .before .before .before .before .before .before .before .before .lowest-item .ensures .there))
+loop-less c = rw (c .remove .ensures) (fewer _ _ (ranked (put c) .before .before .lowest-item .ensures .there))
 
 loop-again : tie.Need-loop-again Inv-loop μ-loop
 loop-again c =
-    let put = c .before .before .before .before in
-    let rank = put .before .before .before .before in
-    let one = rank .before .before in
-    let turn = one .before .before .before in
-    let start = turn .before .before .before .before .before .before in
+    let new = put c in
+    let rank = ranked new in
+    let loop = turn rank in
+    let item = rank .before .before .lowest-item .ensures in
     rw (c .before .before .before .store128 .ensures)
-    (sorting-more _ _ _ _ _ _ (turn .loop .inv) _ _ _ _ (one .lowest-item .ensures .there) (one .lowest-item .ensures .small) (at-start start .1) (rank .redundancy .ensures) (put .before .load128 .ensures) (put .insert .ensures) (narrow put) _ (c .remove .ensures))
+    (sorting-more _ _ _ _ _ _ (loop .loop .inv) _ _ _ _ (item .there) (item .small) (at-start (start (clear loop)) .1) (rank .redundancy .ensures)
+    (new .before .load128 .ensures) (new .insert .ensures) (narrow new) _ (c .remove .ensures))
 
 same-length : tie.Need-same-length Inv-loop μ-loop
-same-length c = let z = c .before .before .loop .inv .size in let f = at-start (c .before .before .before .before .before .before .before .before) in omega arith
+same-length c =
+    let z = c .before .before .loop .inv .size in
+    let f = at-start (start (clear (c .before .before))) in
+    omega arith
 
 returns : tie.Need-returns Inv-loop μ-loop
 returns c =
-    let turn = c .before .before in
-    let clear = turn .before .before .before in
-    let start = clear .before .before .before in
-    sorting-all _ _ _ _ _ _ (turn .loop .inv) (start .args .work .now) (at-start start .0) (at-start start .1) (blank clear) (is-empty _ _ (c .before .is-empty .ensures) (c .if1 .left))
+    let loop = c .before .before in
+    let begin = start (clear loop) in
+    sorting-all _ _ _ _ _ _ (loop .loop .inv) (begin .args .work .now) (at-start begin .0) (at-start begin .1) (blank (clear loop))
+    (is-empty _ _ (c .before .is-empty .ensures) (c .if1 .left))
 
 pub fill-ranks-spec : {M : Type 1} → statement M
 fill-ranks-spec =

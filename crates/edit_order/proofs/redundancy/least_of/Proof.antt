@@ -19,15 +19,34 @@ Inv-loop work i bound floor own least₀ rest₀ least rest = Asking work (set12
 abbrev μ-loop : tie.MeasureT-loop
 μ-loop work i bound floor own least₀ rest₀ least rest = ones (set128 rest)
 
-own-roles : (c : tie.After-intersection Inv-loop μ-loop)
-    → set128 (c .intersection .result) ≡ entry (c .before .before .before .args .work .now) samplesStart (c .before .before .before .args .i) ∩ set128 (c .before .before .before .args .counted)
-own-roles c = c .intersection .ensures ∙ ap (λ (x : ℕ). x ∩ set128 (c .before .before .before .args .counted)) (c .before .load128 .ensures)
+-- the places that the answers look back to
+abbrev start : tie.After-intersection Inv-loop μ-loop → tie.Start Inv-loop μ-loop
+start c = c .before .before .before
+
+abbrev begin : tie.At-loop Inv-loop μ-loop → tie.Start Inv-loop μ-loop
+begin c = start (c .before)
+
+abbrev at-loop : tie.After-highest-item Inv-loop μ-loop → tie.At-loop Inv-loop μ-loop
+at-loop c = c .before .before .before
+
+abbrev item : tie.After-smaller Inv-loop μ-loop → tie.After-highest-item Inv-loop μ-loop
+item c = c .before .before .before .before
+
+abbrev tested : tie.After-difference Inv-loop μ-loop → tie.After-smaller Inv-loop μ-loop
+tested c = c .before .before .before
+
+abbrev turn : tie.After-smaller Inv-loop μ-loop → tie.At-loop Inv-loop μ-loop
+turn c = at-loop (item c)
+
+own-roles : (c : tie.After-intersection Inv-loop μ-loop) → set128 (c .intersection .result) ≡ entry (start c .args .work .now) samplesStart (start c .args .i) ∩ set128 (start c .args .counted)
+own-roles c = c .intersection .ensures ∙ ap (λ (x : ℕ). x ∩ set128 (start c .args .counted)) (c .before .load128 .ensures)
 
 -- one holder is asked
 one : (c : tie.After-smaller Inv-loop μ-loop)
-    → let test = c .before .before .before .before .before .before .before in
-    HolderAsked (test .before .before .before .before .args .work .now) (set128 (test .before .intersection .result)) (test .loop .least) (set128 (test .loop .rest)) (c .before .before .before .before .highest-item .result) (c .smaller .result)
-one c = asked _ _ _ _ _ _ _ _ _ (c .before .before .before .before .highest-item .ensures .there) (c .before .before .before .load1282 .ensures) (c .before .before .intersection2 .ensures) (c .before .count .ensures) (c .smaller .ensures)
+    → HolderAsked (begin (turn c) .args .work .now) (set128 (turn c .before .intersection .result)) (turn c .loop .least) (set128 (turn c .loop .rest)) (item c .highest-item .result) (c .smaller .result)
+one c =
+    asked _ _ _ _ _ _ _ _ _ (item c .highest-item .ensures .there) (c .before .before .before .load1282 .ensures)
+    (c .before .before .intersection2 .ensures) (c .before .count .ensures) (c .smaller .ensures)
 
 mul-load128 : tie.Need-mul-load128 Inv-loop μ-loop
 mul-load128 c = search needs
@@ -57,7 +76,10 @@ add-load128-2 : tie.Need-add-load128-2 Inv-loop μ-loop
 add-load128-2 c = let l = c .highest-item .ensures .small in omega arith
 
 load128-requires-2 : tie.Need-load128-requires-2 Inv-loop μ-loop
-load128-requires-2 c κs = let l = c .highest-item .ensures .small in let z = c .before .before .before .before .before .before .before .pre .1 .1 .reach .size in omega arith
+load128-requires-2 c κs =
+    let l = c .highest-item .ensures .small in
+    let z = begin (at-loop c) .pre .1 .1 .reach .size in
+    omega arith
 
 intersection-requires-2 : tie.Need-intersection-requires-2 Inv-loop μ-loop
 intersection-requires-2 c κs = search needs
@@ -70,36 +92,41 @@ smaller-requires c κs = search needs
 
 returns : tie.Need-returns Inv-loop μ-loop
 returns c =
-    let turn = c .before .before .before .before .before .before .before .before in
-    rw (own-roles (turn .before)) at (asking-stop _ _ _ _ _ _ (turn .before .before .before .before .pre .1) (turn .loop .inv) _ _ (one (c .before)) _ (c .if2 .taken))
+    let loop = turn (c .before) in
+    rw (own-roles (loop .before)) at (asking-stop _ _ _ _ _ _ (begin loop .pre .1) (loop .loop .inv) _ _ (one (c .before)) _ (c .if2 .taken))
 
 mul-load128-3 : tie.Need-mul-load128-3 Inv-loop μ-loop
-mul-load128-3 c = let l = c .before .before .before .before .before .highest-item .ensures .small in omega arith
+mul-load128-3 c = let l = item (c .before) .highest-item .ensures .small in omega arith
 
 add-load128-3 : tie.Need-add-load128-3 Inv-loop μ-loop
-add-load128-3 c = let l = c .before .before .before .before .before .highest-item .ensures .small in omega arith
+add-load128-3 c = let l = item (c .before) .highest-item .ensures .small in omega arith
 
 load128-requires-3 : tie.Need-load128-requires-3 Inv-loop μ-loop
-load128-requires-3 c κs = let one = c .before .before .before .before .before in let l = one .highest-item .ensures .small in let z = one .before .before .before .before .before .before .before .pre .1 .1 .reach .size in omega arith
+load128-requires-3 c κs =
+    let l = item (c .before) .highest-item .ensures .small in
+    let z = begin (turn (c .before)) .pre .1 .1 .reach .size in
+    omega arith
 
 difference-requires : tie.Need-difference-requires Inv-loop μ-loop
 difference-requires c κs = search needs
 
 loop-less : tie.Need-loop-less Inv-loop μ-loop
 loop-less c =
-    let turn = c .before .before .before .before .before .before .before .before .before .before in
-    rw (c .difference .ensures) (asking-fewer _ _ _ _ _ _ (turn .before .before .before .before .pre .1) (turn .loop .inv) _ _ (one (c .before .before .before)) _ (c .before .load1283 .ensures))
+    let test = tested c in
+    let loop = turn test in
+    rw (c .difference .ensures) (asking-fewer _ _ _ _ _ _ (begin loop .pre .1) (loop .loop .inv) _ _ (one test) _ (c .before .load1283 .ensures))
 
 loop-again : tie.Need-loop-again Inv-loop μ-loop
 loop-again c =
-    let turn = c .before .before .before .before .before .before .before .before .before .before in
-    asking-more _ _ _ _ _ _ (turn .before .before .before .before .pre .1) (turn .loop .inv) _ _ (one (c .before .before .before)) _ _ (c .before .load1283 .ensures) (c .difference .ensures)
+    let test = tested c in
+    let loop = turn test in
+    asking-more _ _ _ _ _ _ (begin loop .pre .1) (loop .loop .inv) _ _ (one test) _ _ (c .before .load1283 .ensures) (c .difference .ensures)
 
 returns-2 : tie.Need-returns-2 Inv-loop μ-loop
 returns-2 c =
-    let turn = c .before .before in
-    let start = turn .before .before .before .before in
-    rw (own-roles (turn .before)) at (asking-all _ _ _ _ _ _ (start .pre .1) (turn .loop .inv) (start .args .floor) (is-empty _ _ (c .before .is-empty .ensures) (c .if1 .left)))
+    let loop = c .before .before in
+    rw (own-roles (loop .before)) at
+    (asking-all _ _ _ _ _ _ (begin loop .pre .1) (loop .loop .inv) (begin loop .args .floor) (is-empty _ _ (c .before .is-empty .ensures) (c .if1 .left)))
 
 pub least-of-spec : {M : Type 1} → statement M
 least-of-spec =

@@ -43,9 +43,10 @@ same-length-2 c = search needs
 
 returns-2 : tie.Need-returns-2
 returns-2 c =
-    let start = c .before .before .before .before .before .before in
+    let stored = c .before .before in
+    let start = stored .before .before .before .before in
     let small : set128 (start .args .s) < 2 ^ 128 = search (words, held128) in
-    (search needs, λ users u roles s e. rw (c .before .before .store128 .ensures) (sample-more users u roles _ _ _ (start .pre .0) (start .pre .1) small e s))
+    (search needs, λ users u roles s e. rw (stored .store128 .ensures) (sample-more users u roles _ _ _ (start .pre .0) (start .pre .1) small e s))
 
 pub add-sample-spec : {M : Type 1} → statement M
 add-sample-spec =

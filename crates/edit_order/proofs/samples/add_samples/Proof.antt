@@ -17,6 +17,16 @@ Inv-loop index table₀ count found₀ rest₀ table found rest = Adding (entry 
 abbrev μ-loop : tie.MeasureT-loop
 μ-loop index table₀ count found₀ rest₀ table found rest = ones (set128 rest)
 
+-- the places that the answers look back to
+abbrev at-loop : tie.After-lowest-item Inv-loop μ-loop → tie.At-loop Inv-loop μ-loop
+at-loop c = c .before .before .before
+
+abbrev added : tie.After-remove Inv-loop μ-loop → tie.After-add-sample Inv-loop μ-loop
+added c = c .before .before .before
+
+abbrev item : tie.After-add-sample Inv-loop μ-loop → tie.After-lowest-item Inv-loop μ-loop
+item c = c .before .before .before
+
 loop-holds : tie.Need-loop-holds Inv-loop μ-loop
 loop-holds c = adding-start _ _ _ _ (c .before .before .pre .1)
 
@@ -36,19 +46,23 @@ load128-requires : tie.Need-load128-requires Inv-loop μ-loop
 load128-requires c κs = let l = c .before .lowest-item .ensures .small in omega arith
 
 add-sample-requires : tie.Need-add-sample-requires Inv-loop μ-loop
-add-sample-requires c κs = let turn = c .before .before in (turn .before .before .before .loop .inv .size, adding-room _ _ _ _ _ _ _ _ (turn .before .before .before .loop .inv) (turn .before .before .before .before .before .before .pre .2) (turn .lowest-item .ensures .there))
+add-sample-requires c κs =
+    let one = c .before .before in
+    let inv = at-loop one .loop .inv in
+    let room = at-loop one .before .before .before .pre .2 in
+    (inv .size, adding-room _ _ _ _ _ _ _ _ inv room (one .lowest-item .ensures .there))
 
 remove-requires : tie.Need-remove-requires Inv-loop μ-loop
 remove-requires c κs = search needs
 
 loop-less : tie.Need-loop-less Inv-loop μ-loop
-loop-less c = rw (c .remove .ensures) (fewer _ _ (c .before .before .before .before .before .before .lowest-item .ensures .there))
+loop-less c = rw (c .remove .ensures) (fewer _ _ (item (added c) .lowest-item .ensures .there))
 
 loop-again : tie.Need-loop-again Inv-loop μ-loop
 loop-again c =
-    let added = c .before .before .before in
-    let turn = added .before .before .before in
-    adding-more _ _ _ _ _ _ _ _ _ _ _ _ (turn .before .before .before .loop .inv) (turn .lowest-item .ensures .there) (added .before .load128 .ensures) (omega arith) (added .add-sample .ensures) (c .remove .ensures)
+    let one = item (added c) in
+    adding-more _ _ _ _ _ _ _ _ _ _ _ _ (at-loop one .loop .inv) (one .lowest-item .ensures .there) (added c .before .load128 .ensures) (omega arith)
+    (added c .add-sample .ensures) (c .remove .ensures)
 
 same-length : tie.Need-same-length Inv-loop μ-loop
 same-length c = let z = c .before .before .loop .inv .size in omega arith

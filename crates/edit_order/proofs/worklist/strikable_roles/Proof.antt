@@ -14,6 +14,10 @@ Inv-loop rec index found₀ rest₀ found rest = Gathering rec index (set128 fou
 abbrev μ-loop : tie.MeasureT-loop
 μ-loop rec index found₀ rest₀ found rest = ones (set128 rest)
 
+-- the role that was taken up
+abbrev item : tie.After-remove Inv-loop μ-loop → tie.After-lowest-item Inv-loop μ-loop
+item c = c .before .before .before
+
 empty-requires : tie.Need-empty-requires Inv-loop μ-loop
 empty-requires c κs = search needs
 
@@ -39,11 +43,13 @@ remove-requires : tie.Need-remove-requires Inv-loop μ-loop
 remove-requires c κs = search needs
 
 loop-less : tie.Need-loop-less Inv-loop μ-loop
-loop-less c = rw (c .remove .ensures) (fewer _ _ (c .before .before .before .lowest-item .ensures .there))
+loop-less c = rw (c .remove .ensures) (fewer _ _ (item c .lowest-item .ensures .there))
 
 loop-again : tie.Need-loop-again Inv-loop μ-loop
 loop-again c =
-    gathering-more _ _ _ _ _ _ _ _ (c .before .before .before .before .before .before .loop .inv) (c .before .before .before .lowest-item .ensures .there) (c .before .before .removable .ensures) (c .before .with-strikable .ensures) (c .remove .ensures)
+    let one = item c in
+    gathering-more _ _ _ _ _ _ _ _ (one .before .before .before .loop .inv) (one .lowest-item .ensures .there) (c .before .before .removable .ensures)
+    (c .before .with-strikable .ensures) (c .remove .ensures)
 
 returns : tie.Need-returns Inv-loop μ-loop
 returns c = gathering-all _ _ _ _ (c .before .before .loop .inv) (is-empty _ _ (c .before .is-empty .ensures) (c .if1 .left))

@@ -19,6 +19,19 @@ Inv-loop rec₀ index seniors₀ w c run₀ k₀ rec seniors run k =
 abbrev μ-loop : tie.MeasureT-loop
 μ-loop rec₀ index seniors₀ w c run₀ k₀ rec seniors run k = c - k
 
+-- the places that the answers look back to
+abbrev start : tie.At-loop Inv-loop μ-loop → tie.Start Inv-loop μ-loop
+start c = c .before .before .before .before .before
+
+abbrev in-loop : tie.After-try-restore Inv-loop μ-loop → tie.In-loop Inv-loop μ-loop
+in-loop c = c .before .before .before
+
+abbrev tried : tie.After-slice-known5 Inv-loop μ-loop → tie.After-try-restore Inv-loop μ-loop
+tried c = c .before .before .before .before
+
+abbrev turn : tie.After-slice-known5 Inv-loop μ-loop → tie.In-loop Inv-loop μ-loop
+turn c = in-loop (tried c)
+
 slice-read-c : tie.Need-slice-read-c Inv-loop μ-loop
 slice-read-c c = search needs
 
@@ -30,7 +43,7 @@ loop-holds c =
 
 try-restore-requires : tie.Need-try-restore-requires Inv-loop μ-loop
 try-restore-requires c κs =
-    let given = c .before .before .before .before .before .before .before .before .pre in
+    let given = start (c .before .before .before) .pre in
     let inv = c .before .before .before .loop .inv in
     let b = passing-bound _ _ _ _ _ _ _ _ (inv .2) in
     let n = passing-count _ _ _ _ _ _ _ _ (inv .2) _ (given .0) in
@@ -45,29 +58,35 @@ try-restore-requires c κs =
 
 add-k : tie.Need-add-k Inv-loop μ-loop
 add-k c =
-    let few = ready-few _ _ _ (c .before .before .before .before .before .before .before .before .before .before .before .before .before .pre .0 .ready) in
-    let t = c .before .before .before .before .before .before .before .loop-test .taken in
+    let few = ready-few _ _ _ (start (turn c .before) .pre .0 .ready) in
+    let t = turn c .loop-test .taken in
     omega arith
 
 loop-less : tie.Need-loop-less Inv-loop μ-loop
-loop-less c = let t = c .before .before .before .before .before .before .before .loop-test .taken in omega arith
+loop-less c = let t = turn c .loop-test .taken in omega arith
 
 loop-again : tie.Need-loop-again Inv-loop μ-loop
 loop-again c =
-    let inv = c .before .before .before .before .before .before .before .before .loop .inv in
-    let t = c .before .before .before .before .before .before .before .loop-test .taken in
-    (omega arith, (search needs, search needs), passing-more _ _ _ _ _ _ _ _ (inv .2) _ _ _ (c .before .before .before .before .try-restore .ensures))
+    let inv = turn c .before .loop .inv in
+    let t = turn c .loop-test .taken in
+    (omega arith, (search needs, search needs), passing-more _ _ _ _ _ _ _ _ (inv .2) _ _ _ (tried c .try-restore .ensures))
 
 same-length : tie.Need-same-length Inv-loop μ-loop
-same-length c = let l = c .before .loop .inv .1 .0 in let r = c .before .before .before .before .before .before .pre .1 .1 .1 .0 in omega arith
+same-length c =
+    let l = c .before .loop .inv .1 .0 in
+    let r = start (c .before) .pre .1 .1 .1 .0 in
+    omega arith
 
 same-length-2 : tie.Need-same-length-2 Inv-loop μ-loop
-same-length-2 c = let l = c .before .loop .inv .1 .1 in let r = c .before .before .before .before .before .before .pre .1 .1 .1 .2 in omega arith
+same-length-2 c =
+    let l = c .before .loop .inv .1 .1 in
+    let r = start (c .before) .pre .1 .1 .1 .2 in
+    omega arith
 
 returns : tie.Need-returns Inv-loop μ-loop
 returns c =
     let inv = c .before .loop .inv in
-    let e : c .before .loop .k ≡ getD (c .before .before .before .before .before .before .args .rec .now) 2 0 = let l = inv .0 in let t = c .loop-test .left in omega arith in
+    let e : c .before .loop .k ≡ getD (start (c .before) .args .rec .now) 2 0 = let l = inv .0 in let t = c .loop-test .left in omega arith in
     rw e at (inv .2)
 
 pub review-pass-spec : {M : Type 1} → statement M

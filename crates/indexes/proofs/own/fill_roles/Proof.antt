@@ -26,6 +26,19 @@ Inv-loop crew at n table c low₀ out₀ own₀ u₀ low out own u =
 abbrev μ-loop : tie.MeasureT-loop
 μ-loop crew at n table c low₀ out₀ own₀ u₀ low out own u = n - u
 
+-- the places that the answers look back to
+abbrev start : tie.At-loop Inv-loop μ-loop → tie.Start Inv-loop μ-loop
+start c = c .before .before .before .before .before .before .before
+
+abbrev in-loop : tie.After-own-roles Inv-loop μ-loop → tie.In-loop Inv-loop μ-loop
+in-loop c = c .before .before .before
+
+abbrev owned : tie.After-store128 Inv-loop μ-loop → tie.After-own-roles Inv-loop μ-loop
+owned c = c .before .before .before .before .before
+
+abbrev turn : tie.After-slice-known4 Inv-loop μ-loop → tie.In-loop Inv-loop μ-loop
+turn c = in-loop (owned (c .before .before))
+
 empty-requires : tie.Need-empty-requires Inv-loop μ-loop
 empty-requires c κs = search needs
 
@@ -61,15 +74,16 @@ loop-less c = search needs
 
 loop-again : tie.Need-loop-again Inv-loop μ-loop
 loop-again c =
-    let small : set128 (c .before .before .before .before .before .before .before .own-roles .result .roles) < 2 ^ 128 = search (words, held128) in
-    let inv = c .before .before .before .before .before .before .before .before .before .before .before .loop .inv in (
+    let small : set128 (owned (c .before .before) .own-roles .result .roles) < 2 ^ 128 = search (words, held128) in
+    let inv = turn c .before .loop .inv in (
       search needs,
       omega arith,
       omega arith,
       λ st src.
-          let lu = c .before .before .before .before .before .before .before .before .before .before .loop-test .taken in
-          let k = c .before .before .before .before .before .before .before .own-roles .ensures st _ _ _ src lu (c .before .before .before .before .before .before .before .before .load256 .ensures ∙ source-row st _ _ _ _ _ src _ lu) (inv .3 st src .0) in
-          (k .0, rw (c .before .before .store128 .ensures) (filled-more 2 _ _ _ (c .before .before .before .before .before .before .before .before .before .before .before .before .before .before .before .before .before .before .args .out .now) (c .before .before .before .before .before .before .before .before .before .before .before .loop .out) (inv .3 st src .1) (omega arith) small (k .1))),
+          let lu = turn c .loop-test .taken in
+          let row = owned (c .before .before) .before .load256 .ensures ∙ source-row st _ _ _ _ _ src _ lu in
+          let k = owned (c .before .before) .own-roles .ensures st _ _ _ src lu row (inv .3 st src .0) in
+          (k .0, rw (c .before .before .store128 .ensures) (filled-more 2 _ _ _ (start (turn c .before) .args .out .now) (turn c .before .loop .out) (inv .3 st src .1) (omega arith) small (k .1))),
     )
 
 same-length : tie.Need-same-length Inv-loop μ-loop
@@ -80,7 +94,7 @@ same-length-2 c = omega arith
 
 returns : tie.Need-returns Inv-loop μ-loop
 returns c =
-    let e : c .before .loop .u ≡ c .before .before .before .before .before .before .before .before .args .n = omega arith in
+    let e : c .before .loop .u ≡ start (c .before) .args .n = omega arith in
     λ st src. rw e at (c .before .loop .inv .3 st src)
 
 pub fill-roles-spec : {M : Type 1} → statement M

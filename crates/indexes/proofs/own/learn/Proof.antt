@@ -36,10 +36,13 @@ same-length c = search needs
 
 returns-2 : tie.Need-returns-2
 returns-2 c =
-    let small : set128 (c .before .before .before .before .before .lower-of .result) < 2 ^ 128 = search (words, held128) in
+    let stored = c .before .before .before .before in
+    let test = stored .before .before .before .before in
+    let given = test .before .before .before .before .before .pre in
+    let small : set128 (stored .before .lower-of .result) < 2 ^ 128 = search (words, held128) in
     λ st crew at n cc i src le lu own h.
-    rw (c .before .before .before .before .store128 .ensures)
-    (own-learnt st crew at n _ cc src _ _ _ i _ _ _ _ _ h (c .before .before .before .before .before .before .before .before .before .before .before .before .before .pre .1) (c .before .before .before .before .before .before .before .before .before .before .before .before .before .pre .2) (c .before .before .before .before .before .before .before .before .before .before .before .before .before .pre .3) le lu own (c .before .before .before .before .before .lower-of .ensures) small (c .before .insert .ensures) (c .insert2 .ensures))
+    rw (stored .store128 .ensures)
+    (own-learnt st crew at n _ cc src _ _ _ i _ _ _ _ _ h (given .1) (given .2) (given .3) le lu own (stored .before .lower-of .ensures) small (c .before .insert .ensures) (c .insert2 .ensures))
 
 pub learn-spec : {M : Type 1} → statement M
 learn-spec =

@@ -35,6 +35,25 @@ Inv-loop roles users c low₀ some rest₀ low rest =
 abbrev μ-loop : tie.MeasureT-loop
 μ-loop roles users c low₀ some rest₀ low rest = ones (set128 rest)
 
+-- the places that the answers look back to
+abbrev start : tie.After-difference Inv-loop μ-loop → tie.Start Inv-loop μ-loop
+start c = c .before .before .before .before .before .before .before
+
+abbrev at-loop : tie.After-lowest-item Inv-loop μ-loop → tie.At-loop Inv-loop μ-loop
+at-loop c = c .before .before .before
+
+abbrev picked : tie.After-remove Inv-loop μ-loop → tie.After-lowest-item Inv-loop μ-loop
+picked c = c .before .before .before .before .before
+
+abbrev cleared : tie.After-remove2 Inv-loop μ-loop → tie.After-remove Inv-loop μ-loop
+cleared c = c .before .before .before .before
+
+abbrev turn : tie.After-remove2 Inv-loop μ-loop → tie.After-lowest-item Inv-loop μ-loop
+turn c = picked (cleared c)
+
+abbrev given : tie.After-remove2 Inv-loop μ-loop → tie.Start Inv-loop μ-loop
+given c = start (at-loop (turn c) .before)
+
 below-requires : tie.Need-below-requires Inv-loop μ-loop
 below-requires c κs = search needs
 
@@ -42,7 +61,8 @@ difference-requires : tie.Need-difference-requires Inv-loop μ-loop
 difference-requires c κs = search needs
 
 loop-holds : tie.Need-loop-holds Inv-loop μ-loop
-loop-holds c = (search needs, to-do _ _ _ _ (c .before .before .before .before .before .before .before .pre .3) (c .before .below .ensures) (c .difference .ensures), λ st known lim count hr hu h start. start)
+loop-holds c =
+    (search needs, to-do _ _ _ _ (start c .pre .3) (c .before .below .ensures) (c .difference .ensures), λ st known lim count hr hu h begun. begun)
 
 is-empty-requires : tie.Need-is-empty-requires Inv-loop μ-loop
 is-empty-requires c κs = search needs
@@ -69,28 +89,30 @@ remove-requires : tie.Need-remove-requires Inv-loop μ-loop
 remove-requires c κs = search needs
 
 store128-requires : tie.Need-store128-requires Inv-loop μ-loop
-store128-requires c κs = let l = c .before .before .before .before .before .lowest-item .ensures .small in omega arith
+store128-requires c κs = let l = picked c .lowest-item .ensures .small in omega arith
 
 remove-requires-2 : tie.Need-remove-requires-2 Inv-loop μ-loop
 remove-requires-2 c κs = search needs
 
 loop-less : tie.Need-loop-less Inv-loop μ-loop
-loop-less c = rw (c .remove2 .ensures) (fewer _ _ (c .before .before .before .before .before .before .before .before .before .lowest-item .ensures .there))
+loop-less c = rw (c .remove2 .ensures) (fewer _ _ (turn c .lowest-item .ensures .there))
 
 loop-again : tie.Need-loop-again Inv-loop μ-loop
 loop-again c =
-    let item = c .before .before .before .before .before .before .before .before .before .lowest-item .ensures in
-    let inv = c .before .before .before .before .before .before .before .before .before .before .before .before .loop .inv in
-    let small : set128 (c .before .before .before .before .remove .result) < 2 ^ 128 = search (words, held128) in
+    let item = turn c .lowest-item .ensures in
+    let inv = at-loop (turn c) .loop .inv in
+    let small : set128 (cleared c .remove .result) < 2 ^ 128 = search (words, held128) in
     let lk = inv .1 _ (item .there) in (
       omega arith,
       λ i t. inv .1 i (∖-iff _ _ i .0 (rw (c .remove2 .ensures) at t) .0),
-      λ st known lim count hr hu h start.
+      λ st known lim count hr hu h begun.
           rw (c .remove2 .ensures, c .before .before .before .store128 .ensures)
-          (held-more _ _ _ _ _ _ (inv .2 st known lim count hr hu h start) (let l = item .small in omega arith) small
-          (shared-is st lim _ (c .before .before .before .before .before .before .before .before .before .before .before .before .before .before .before .before .before .before .before .before .args .roles .now) (c .before .before .before .before .before .before .before .before .before .before .before .before .before .before .before .before .before .before .before .before .args .users .now) known _ h hr _ (rw count lk) (hu _ lk) _
-          (c .before .before .before .before .remove .ensures ∙ ap (λ (x : ℕ). x ∖ single (c .before .before .before .before .before .before .before .before .before .lowest-item .result))
-          (c .before .before .before .before .before .shared .ensures ∙ ap (sharedBy (c .before .before .before .before .before .before .before .before .before .before .before .before .before .before .before .before .before .before .before .before .args .roles .now)) (c .before .before .before .before .before .before .before .intersection .ensures ∙ ap (λ (x : ℕ). x ∩ set128 (c .before .before .before .before .before .before .before .before .before .before .before .before .before .before .before .before .before .before .before .before .args .own .users)) (c .before .before .before .before .before .before .before .before .load128 .ensures)))))),
+          (held-more _ _ _ _ _ _ (inv .2 st known lim count hr hu h begun) (let l = item .small in omega arith) small
+          (shared-is st lim _ (given c .args .roles .now) (given c .args .users .now) known _ h hr _ (rw count lk) (hu _ lk) _
+          (cleared c .remove .ensures ∙ ap (λ (x : ℕ). x ∖ single (turn c .lowest-item .result))
+          (cleared c .before .shared .ensures ∙ ap (sharedBy (given c .args .roles .now))
+          (cleared c .before .before .before .intersection .ensures ∙ ap (λ (x : ℕ). x ∩ set128 (given c .args .own .users))
+          (cleared c .before .before .before .before .load128 .ensures)))))),
     )
 
 same-length : tie.Need-same-length Inv-loop μ-loop
@@ -98,10 +120,12 @@ same-length c = omega arith
 
 returns : tie.Need-returns Inv-loop μ-loop
 returns c =
-    let z : set128 (c .before .before .loop .rest) ≡ 0 = is-empty _ _ (c .before .is-empty .ensures) (c .if1 .left) in
+    let loop = c .before .before in
+    let z : set128 (loop .loop .rest) ≡ 0 = is-empty _ _ (c .before .is-empty .ensures) (c .if1 .left) in
     λ st lim count hr hu h i l.
-    c .before .before .loop .inv .2 st _ lim count hr hu h (rw (c .before .before .before .before .below .ensures) at (lowered-start st _ _ _ _ _ _ h (c .before .before .before .difference .ensures))) i (every-iff _ (c .before .before .before .before .before .before .before .before .before .before .pre .3) i .1 l)
-    (λ t. So-not (has-zero i) (rw z at t))
+    loop .loop .inv .2 st _ lim count hr hu h
+    (rw (loop .before .before .below .ensures) at (lowered-start st _ _ _ _ _ _ h (loop .before .difference .ensures))) i
+    (every-iff _ (start (loop .before) .pre .3) i .1 l) (λ t. So-not (has-zero i) (rw z at t))
 
 pub fill-shared-spec : {M : Type 1} → statement M
 fill-shared-spec =

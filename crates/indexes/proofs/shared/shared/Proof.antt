@@ -48,8 +48,9 @@ loop-less c = rw (c .remove .ensures) (fewer _ _ (c .before .before .before .low
 
 loop-again : tie.Need-loop-again Inv-loop μ-loop
 loop-again c =
-    let item = c .before .before .before .lowest-item .ensures in
-    let inv = c .before .before .before .before .before .before .loop .inv in (
+    let pick = c .before .before .before in
+    let item = pick .lowest-item .ensures in
+    let inv = pick .before .before .before .loop .inv in (
       sharing-more _ _ _ _ _ _ _ _ (inv .0) (item .small) (inv .1 _ (item .there)) (c .before .before .load128 .ensures) (c .before .intersection .ensures) (c .remove .ensures),
       λ u t. inv .1 u (∖-iff _ _ u .0 (rw (c .remove .ensures) at t) .0),
     )

@@ -11,6 +11,16 @@ use Rattle.indexes.proofs.Sources.{indexed}
 use Rattle.indexes.proofs.state.fill_index.Statement.{statement}
 use Rattle.indexes.proofs.state.fill_index.Tie as tie
 
+-- the places that the answers look back to
+abbrev start : tie.After-fill-tables → tie.Start
+start c = c .before .before .before .before .before .before
+
+abbrev tabled : tie.After-copy-arg → tie.After-fill-tables
+tabled c = c .before .before .before .before .before
+
+abbrev copied : tie.After-copy2 → tie.After-copy
+copied c = c .before .before .before .before .before
+
 slice-aggregate-fill-tables : tie.Need-slice-aggregate-fill-tables
 slice-aggregate-fill-tables c = search needs
 
@@ -46,11 +56,11 @@ same-length c = search needs
 
 returns : tie.Need-returns
 returns c = λ st src.
-    let start = c .before .before .before .before .before .before .before .before .before .before .before .before .before .before .before .before .before .before .before .before in
-    let call = c .before .before .before .before .before .before .before .before .before .before .before .before .before .before .fill-tables in
-    let size : length (call .last .1 .1 .1 .1 .0) ≡ 256 = omega arith in
-    rw (c .before .before .copy2 .ensures, c .before .before .before .before .before .before .before .copy .ensures, part-back (start .args .index .now) usersStart 256 (call .last .1 .1 .1 .1 .0) size (omega arith))
-    (indexed (rolesOf st) (start .args .index .now) _ _ _ (omega arith) (omega arith) (omega arith) size (call .ensures st src))
+    let call = tabled (copied (c .before .before) .before .before) in
+    let index = start call .args .index .now in
+    let size : length (call .fill-tables .last .1 .1 .1 .1 .0) ≡ 256 = omega arith in
+    rw (c .before .before .copy2 .ensures, copied (c .before .before) .copy .ensures, part-back index usersStart 256 (call .fill-tables .last .1 .1 .1 .1 .0) size (omega arith))
+    (indexed (rolesOf st) index _ _ _ (omega arith) (omega arith) (omega arith) size (call .fill-tables .ensures st src))
 
 pub fill-index-spec : {M : Type 1} → statement M
 fill-index-spec =

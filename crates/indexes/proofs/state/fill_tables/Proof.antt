@@ -6,6 +6,16 @@ use Rattle.indexes.proofs.Sources.{source-count, users-held, tabled}
 use Rattle.indexes.proofs.state.fill_tables.Statement.{statement}
 use Rattle.indexes.proofs.state.fill_tables.Tie as tie
 
+-- the places that the answers look back to
+abbrev start : tie.After-slice-known3 → tie.Start
+start c = c .before .before .before .before
+
+abbrev roled : tie.After-fill-columns-arg → tie.After-fill-roles
+roled c = c .before .before .before .before .before
+
+abbrev columned : tie.After-fill-shared-arg3 → tie.After-fill-columns
+columned c = c .before .before .before .before .before
+
 shared-slice-read-n : tie.Need-shared-slice-read-n
 shared-slice-read-n c = search needs
 
@@ -23,7 +33,7 @@ part-fill-roles-end c = search needs
 
 fill-roles-requires : tie.Need-fill-roles-requires
 fill-roles-requires c κs =
-    let p = c .before .before .before .before .before .before .before .before .before .pre .0 in
+    let p = start (c .before .before .before .before .before) .pre .0 in
     (search needs, p .few-users, search needs, search needs, p .few-candidates, p .grows, search needs)
 
 fill-columns-requires : tie.Need-fill-columns-requires
@@ -43,9 +53,11 @@ same-length-3 c = search needs
 
 returns : tie.Need-returns
 returns c = λ st src.
-    let met = c .before .before .before .before .before .before .before .before .before .before .before .before .before .before .before .fill-roles .ensures st src in
-    let users = users-held st _ _ _ _ _ src _ _ (met .1 .0) (c .before .before .before .before .before .before .before .before .fill-columns .ensures .0) in
-    let low = c .before .before .fill-shared .ensures st (src .limits) (source-count st _ _ _ _ _ src) (λ u l. met .1 .0 u (rw (src .users) at l)) users (rw (sym (src .users)) at (met .0)) in
+    let shared = c .before .before in
+    let columns = columned (shared .before) in
+    let met = roled (columns .before .before) .fill-roles .ensures st src in
+    let users = users-held st _ _ _ _ _ src _ _ (met .1 .0) (columns .fill-columns .ensures .0) in
+    let low = shared .fill-shared .ensures st (src .limits) (source-count st _ _ _ _ _ src) (λ u l. met .1 .0 u (rw (src .users) at l)) users (rw (sym (src .users)) at (met .0)) in
     tabled st _ _ _ _ _ src _ _ _ low (met .1 .0) users
 
 pub fill-tables-spec : {M : Type 1} → statement M

@@ -23,8 +23,10 @@ same-length c = search needs
 
 returns : tie.Need-returns
 returns c =
-    let small : set256 (c .before .before .before .before .before .before .args .x) < 2 ^ 256 = search (words, held256) in
-    rw (c .before .before .store256 .ensures) (slot-stored _ _ _ (c .before .before .before .before .before .before .pre) (c .before .before .before .slot-of .ensures) small)
+    let slot = c .before .before .before in
+    let start = slot .before .before .before in
+    let small : set256 (start .args .x) < 2 ^ 256 = search (words, held256) in
+    rw (c .before .before .store256 .ensures) (slot-stored _ _ _ (start .pre) (slot .slot-of .ensures) small)
 
 pub remember-spec : {M : Type 1} → statement M
 remember-spec =

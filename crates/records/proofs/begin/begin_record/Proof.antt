@@ -35,8 +35,10 @@ same-length c = search needs
 
 returns : tie.Need-returns
 returns c = λ st d o.
-    rw (c .before .before .copy .ensures, c .before .before .before .before .before .before .before .write-header .ensures)
-    (begun st _ _ _ _ _ _ _ _ d o refl (search needs) (λ i. c .before .before .before .before .before .before .before .before .before .shared-slice-known .given i .fits))
+    let copied = c .before .before in
+    let headed = copied .before .before .before .before .before in
+    rw (copied .copy .ensures, headed .write-header .ensures)
+    (begun st _ _ _ _ _ _ _ _ d o refl (search needs) (λ i. headed .before .before .shared-slice-known .given i .fits))
 
 pub begin-record-spec : {M : Type 1} → statement M
 begin-record-spec =

@@ -19,17 +19,19 @@ part-mine-end c = search needs
 
 mine-requires : tie.Need-mine-requires
 mine-requires c κs =
-    let given = c .before .before .before .pre in
-    (given .1 .1, search needs, zero-part (c .before .before .before .args .rec .now) (given .1 .0) setsStart 512)
+    let start = c .before .before .before in
+    (start .pre .1 .1, search needs, zero-part (start .args .rec .now) (start .pre .1 .0) setsStart 512)
 
 same-length : tie.Need-same-length
 same-length c = search needs
 
 returns : tie.Need-returns
 returns c =
-    let start = c .before .before .before .before .before .before in
-    let call = c .before .before .mine in
-    mined-into (candidates (rowsAt (start .args .n) (start .args .crew .now) (start .args .at))) (start .args .rec .now) (call .last .1 .1 .1 .0) (call .result) (start .pre .0) (start .pre .1 .0)
+    let mined = c .before .before in
+    let start = mined .before .before .before .before in
+    let call = mined .mine in
+    mined-into (candidates (rowsAt (start .args .n) (start .args .crew .now) (start .args .at))) (start .args .rec .now) (call .last .1 .1 .1 .0) (call .result)
+    (start .pre .0) (start .pre .1 .0)
     (search needs) (call .ensures)
 
 pub mine-record-spec : {M : Type 1} → statement M

@@ -15,8 +15,27 @@ use Rattle.records.proofs.Judging.{limited, unlimited, limited-users, t
 use Rattle.records.proofs.check.is_sound.Statement.{statement}
 use Rattle.records.proofs.check.is_sound.Tie as tie
 
+-- the places that the answers look back to
+abbrev start : tie.Else1 → tie.Start
+start c = c .before .before .before .before .before
+
+abbrev kept : tie.After-mine-record → tie.Else1
+kept c = c .before .before .before
+
+abbrev mined : tie.After-c → tie.After-mine-record
+mined c = c .before .before .before
+
+abbrev number : tie.After-is-subset → tie.After-c
+number c = c .before .before .before .before
+
+abbrev limits-kept : tie.After-is-subset → tie.Else1
+limits-kept c = kept (mined (number c))
+
+abbrev tested : tie.After-matches-arg2 → tie.After-is-subset
+tested c = c .before .before .before .before
+
 -- the limits are kept
-limited-at : (c : tie.Else1) → So (limited (c .before .before .before .before .before .args .rec .now) (c .before .before .before .before .before .pre .0))
+limited-at : (c : tie.Else1) → So (limited (start c .args .rec .now) (start c .pre .0))
 limited-at c = sym (c .before .within .ensures) ∙ not-false _ (c .if1 .left)
 
 within-requires : tie.Need-within-requires
@@ -35,10 +54,10 @@ slice-aggregate-mine-record c = search needs
 
 mine-record-requires : tie.Need-mine-record-requires
 mine-record-requires c κs =
-    let start = c .before .before .before .before .before .before .before in
-    let few = limited-users (start .args .rec .now) (start .pre .0) (limited-at (c .before .before)) in
-    let full = start .pre .0 in
-    let room : 8 + 4 * getD (start .args .rec .now) 0 0 ≤ length (start .args .rec .now) = omega arith in
+    let ws = start (c .before .before) .args .rec .now in
+    let full = start (c .before .before) .pre .0 in
+    let few = limited-users ws full (limited-at (c .before .before)) in
+    let room : 8 + 4 * getD ws 0 0 ≤ length ws = omega arith in
     (search needs, (blank recordLength, room))
 
 enum-known-c : tie.Need-enum-known-c
@@ -49,7 +68,7 @@ enum-told c = search needs
 
 returns-2 : tie.Need-returns-2
 returns-2 c =
-    let no = too-many _ (c .before .before .before .before .before .before .before .before .before .before .before .pre .0) (subst (MinesInto _ _) (c .enum-told .given .1) (c .before .before .before .mine-record .ensures)) in
+    let no = too-many _ (start (kept (c .before .before .before)) .pre .0) (subst (MinesInto _ _) (c .enum-told .given .1) (c .before .before .before .mine-record .ensures)) in
     (no, λ s. absurd (So-not (sym no) s))
 
 load128-requires : tie.Need-load128-requires
@@ -63,8 +82,10 @@ is-subset-requires c κs = search needs
 
 returns-3 : tie.Need-returns-3
 returns-3 c =
-    let m = subst (MinesInto _ _) (c .before .before .before .before .before .c .given .1) (c .before .before .before .before .before .before .before .before .mine-record .ensures) in
-    let no = too-high _ (c .before .before .before .before .before .before .before .before .before .before .before .before .before .before .before .before .pre .0) (limited-at (c .before .before .before .before .before .before .before .before .before .before .before)) _ (m .1) (m .2) _ _ _ (c .before .before .before .load128 .ensures) (c .before .before .below .ensures) (c .before .is-subset .ensures) (c .if2 .taken) in
+    let test = c .before in
+    let m = subst (MinesInto _ _) (number test .c .given .1) (mined (number test) .mine-record .ensures) in
+    let no = too-high _ (start (limits-kept test) .pre .0) (limited-at (limits-kept test)) _ (m .1) (m .2)
+    _ _ _ (test .before .before .load128 .ensures) (test .before .below .ensures) (test .is-subset .ensures) (c .if2 .taken) in
     (no, λ s. absurd (So-not (sym no) s))
 
 slice-aggregate-matches : tie.Need-slice-aggregate-matches
@@ -73,11 +94,13 @@ slice-aggregate-matches c = search needs
 matches-requires : tie.Need-matches-requires
 unfolding stateOf
 matches-requires c κs =
-    let ws = c .before .before .before .before .before .before .before .before .before .before .before .before .before .before .before .before .before .before .before .args .rec .now in
-    let given = c .before .before .before .before .before .before .before .before .before .before .before .before .before .before .before .before .before .before .before .pre in
-    let ok = limited-at (c .before .before .before .before .before .before .before .before .before .before .before .before .before .before) in
-    let m = subst (MinesInto _ _) (c .before .before .before .before .before .before .before .before .c .given .1) (c .before .before .before .before .before .before .before .before .before .before .before .mine-record .ensures) in
-    let lim = limits ws (given .0) ok _ (m .1) (m .2) _ _ _ (c .before .before .before .before .before .before .load128 .ensures) (c .before .before .before .before .before .below .ensures) (c .before .before .before .before .is-subset .ensures) (c .before .before .before .if2 .left) in
+    let test = tested c in
+    let ws = start (limits-kept test) .args .rec .now in
+    let given = start (limits-kept test) .pre in
+    let ok = limited-at (limits-kept test) in
+    let m = subst (MinesInto _ _) (number test .c .given .1) (mined (number test) .mine-record .ensures) in
+    let lim = limits ws (given .0) ok _ (m .1) (m .2)
+    _ _ _ (test .before .before .load128 .ensures) (test .before .below .ensures) (test .is-subset .ensures) (c .before .before .before .if2 .left) in
     (given .0, (lim, (counted ws (given .0) ok _ (m .1) (m .2), (m .0, (search needs, (search needs, given .1 .1 .1))))))
 
 same-length : tie.Need-same-length

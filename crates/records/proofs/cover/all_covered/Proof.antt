@@ -26,6 +26,13 @@ Inv-loop rec index n standing u₀ u =
 abbrev μ-loop : tie.MeasureT-loop
 μ-loop rec index n standing u₀ u = n - u
 
+-- the places that the answers look back to
+abbrev start : tie.In-loop Inv-loop μ-loop → tie.Start Inv-loop μ-loop
+start c = c .before .before .before .before .before .before
+
+abbrev in-loop : tie.After-user-covered Inv-loop μ-loop → tie.In-loop Inv-loop μ-loop
+in-loop c = c .before .before .before .before .before .before
+
 shared-slice-read-n : tie.Need-shared-slice-read-n Inv-loop μ-loop
 shared-slice-read-n c = search needs
 
@@ -75,17 +82,17 @@ user-covered-requires : tie.Need-user-covered-requires Inv-loop μ-loop
 user-covered-requires c κs = search needs
 
 -- what the test of user u tells
-told : (c : tie.After-user-covered Inv-loop μ-loop) (st : State) → SourceOf st (c .before .before .before .before .before .before .before .before .before .before .before .before .args .rec .now) crewStart → setAt 2 (c .before .before .before .before .before .before .before .before .before .before .before .before .args .rec .now) 4 ≡ st .standing
-    → Indexed (rolesOf st) (c .before .before .before .before .before .before .before .before .before .before .before .before .args .index .now) → c .user-covered .result ≡ eachGrantCovered st (c .before .before .before .before .before .before .before .loop .u)
+told : (c : tie.After-user-covered Inv-loop μ-loop) (st : State) → SourceOf st (start (in-loop c) .args .rec .now) crewStart → setAt 2 (start (in-loop c) .args .rec .now) 4 ≡ st .standing
+    → Indexed (rolesOf st) (start (in-loop c) .args .index .now) → c .user-covered .result ≡ eachGrantCovered st (in-loop c .before .loop .u)
 told c st src same ix =
-    let lu = c .before .before .before .before .before .before .loop-test .taken in
+    let lu = in-loop c .loop-test .taken in
     c .user-covered .ensures st _ _ _ _ _ src (ix .lower-roles) lu (c .before .before .load256 .ensures ∙ source-row st _ _ _ _ _ src _ lu)
-    (own-roles-are st _ (src .users) _ ix _ _ _ _ lu (c .before .before .before .before .load1282 .ensures) (c .before .before .before .intersection .ensures) (c .before .before .before .before .before .before .before .before .load128 .ensures ∙ same))
+    (own-roles-are st _ (src .users) _ ix _ _ _ _ lu (c .before .before .before .before .load1282 .ensures) (c .before .before .before .intersection .ensures) (in-loop c .before .before .load128 .ensures ∙ same))
 
 returns : tie.Need-returns Inv-loop μ-loop
 returns c =
     λ st src same ix.
-    all-fails _ _ _ (c .before .before .before .before .before .before .before .loop-test .taken) (λ h. So-not (sym (told (c .before) st src same ix) ∙ not-true _ (c .if1 .taken)) h) ∙ sym (users-counted st _ _ _ _ _ src)
+    all-fails _ _ _ (in-loop (c .before) .loop-test .taken) (λ h. So-not (sym (told (c .before) st src same ix) ∙ not-true _ (c .if1 .taken)) h) ∙ sym (users-counted st _ _ _ _ _ src)
 
 add-u : tie.Need-add-u Inv-loop μ-loop
 add-u c = search needs
@@ -95,7 +102,7 @@ loop-less c = search needs
 
 loop-again : tie.Need-loop-again Inv-loop μ-loop
 loop-again c =
-    (search needs, λ st src same ix. all-more _ _ (c .before .before .before .before .before .before .before .before .loop .inv .1 st src same ix) (sym (told (c .before) st src same ix) ∙ not-false _ (c .if1 .left)))
+    (search needs, λ st src same ix. all-more _ _ (in-loop (c .before) .before .loop .inv .1 st src same ix) (sym (told (c .before) st src same ix) ∙ not-false _ (c .if1 .left)))
 
 returns-2 : tie.Need-returns-2 Inv-loop μ-loop
 returns-2 c = λ st src same ix. all-through _ _ _ (c .loop-test .left) (c .before .loop .inv .1 st src same ix) ∙ sym (users-counted st _ _ _ _ _ src)

@@ -14,12 +14,25 @@ use Rattle.records.proofs.Judging.{fresh-few, fresh-candidates, fresh-d
 use Rattle.records.proofs.fresh.write_fresh.Statement.{statement}
 use Rattle.records.proofs.fresh.write_fresh.Tie as tie
 
+-- the places that the answers look back to
+abbrev start : tie.After-below → tie.Start
+start c = c .before .before .before .before .before
+
+abbrev begun : tie.After-seniors → tie.After-begin-record
+begun c = c .before .before .before .before .before
+
+abbrev start-completed : tie.After-complete-record → tie.Start
+start-completed c = start (begun (c .before) .before)
+
+abbrev completed : tie.After-copy-arg → tie.After-complete-record
+completed c = c .before .before .before .before .before
+
 abbrev rows : tie.Start → List ℕ
 rows c = rowsAt (c .args .n) (c .args .crew .now) 0
 
-begun-at : (c : tie.After-begin-record) → WithoutRows (fresh (c .before .before .before .before .before .before .args .n) (c .before .before .before .before .before .before .args .m) (rows (c .before .before .before .before .before .before))) (c .begin-record .last .0)
+begun-at : (c : tie.After-begin-record) → WithoutRows (fresh (start (c .before) .args .n) (start (c .before) .args .m) (rows (start (c .before)))) (c .begin-record .last .0)
 begun-at c =
-    let given = c .before .before .before .before .before .before .pre in
+    let given = start (c .before) .pre in
     c .begin-record .ensures _ (fresh-described _ _ _ _ _ (given .1 .1 .0) (given .1 .1 .1 .0) (c .before .below .ensures)) (fresh-candidates _ _ _ _ (given .1 .1 .1 .1))
 
 below-requires : tie.Need-below-requires
@@ -27,7 +40,7 @@ below-requires c κs = search needs
 
 begin-record-requires : tie.Need-begin-record-requires
 begin-record-requires c κs =
-    let given = c .before .before .before .before .before .pre in
+    let given = start c .pre in
     (given .1 .1 .1 .1 .size, (search needs, fresh-few _ _ _ (given .1 .1 .0)))
 
 slice-aggregate-complete-record : tie.Need-slice-aggregate-complete-record
@@ -38,8 +51,8 @@ slice-aggregate-complete-record-2 c = search needs
 
 complete-record-requires : tie.Need-complete-record-requires
 complete-record-requires c κs =
-    let given = c .before .before .before .before .before .before .before .before .before .before .before .pre in
-    (headed-fills _ (given .1 .1 .0) _ (begun-at (c .before .before .before .before .before) .headed), (search needs, (search needs, blank 256)))
+    let given = start (begun c .before) .pre in
+    (headed-fills _ (given .1 .1 .0) _ (begun-at (begun c) .headed), (search needs, (search needs, blank 256)))
 
 copy-requires : tie.Need-copy-requires
 copy-requires c κs = search needs
@@ -52,9 +65,11 @@ same-length-2 c = search needs
 
 returns : tie.Need-returns
 returns c =
-    let made = c .before .before .before .before .before .before .before .before .before .complete-record .ensures _ (c .before .before .before .before .before .before .before .before .before .before .before .before .before .before .before .before .before .before .before .before .before .pre .1 .1 .0) (begun-at (c .before .before .before .before .before .before .before .before .before .before .before .before .before .before .before)) in
+    let call = completed (c .before .before .before .before) in
+    let given = start-completed call .pre in
+    let made = call .complete-record .ensures _ (given .1 .1 .0) (begun-at (begun (call .before))) in
     let size = built-headed _ _ (made .afresh) .size in
-    let full = c .before .before .before .before .before .before .before .before .before .before .before .before .before .before .before .before .before .before .before .before .before .pre .0 in
+    let full = given .0 in
     c .before .before .copy .ensures ∙ putAt-whole _ _ (omega arith) ∙ made .afresh
 
 pub write-fresh-spec : {M : Type 1} → statement M
