@@ -13,7 +13,7 @@ use Rattle.sets.proofs.Items.{has-zero}
 use Rattle.sets.proofs.Order.{∩-iff}
 use Rattle.model.specs.Lists.{setAt}
 use Rattle.model.proofs.PassOrder.{before-iff, foremost-only}
-use Rattle.hierarchy.specs.Tables.{Lowest}
+use Rattle.sets.specs.Extremes.{LowestItem}
 use Rattle.edit_order.specs.Ranking.{Keyed, NextRole}
 
 -- `front` are the roles of this rank, and no role to do has a larger key
@@ -50,7 +50,7 @@ module _ (ranks : List ℕ) (todo top front rank : ℕ) (inv : Sinking ranks tod
         }
 
     -- below all ranks: then no role has a key, which none is that is to do
-    pub sinking-out : (role : ℕ) → rank ≡ 0 → Lowest todo role → NextRole ranks todo top role rank
+    pub sinking-out : (role : ℕ) → rank ≡ 0 → LowestItem 128 todo role → NextRole ranks todo top role rank
     sinking-out role e low =
         record {
           small = low .small;
@@ -60,7 +60,7 @@ module _ (ranks : List ℕ) (todo top front rank : ℕ) (inv : Sinking ranks tod
           keyed = lowered;
         }
 
-  pub sinking-found : (role : ℕ) → Lowest front role → NextRole ranks todo top role rank
+  pub sinking-found : (role : ℕ) → LowestItem 128 front role → NextRole ranks todo top role rank
   sinking-found role low =
       let a = ∩-iff (setAt 2 ranks (2 * rank)) todo role .0 (rw (inv .here) at (low .there)) in
       record {

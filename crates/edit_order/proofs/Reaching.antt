@@ -18,29 +18,30 @@ use Rattle.model.specs.Hierarchy.{Roles, candidateCount}
 use Rattle.model.specs.Indexes.{lower, rolesOfPermission, downFrom, upFrom, firstHolders}
 use Rattle.model.proofs.Shortcuts.{rolesOfPermission-iff, downFrom-iff, upFrom-iff, firstHolder-iff, firstHolders-iff, down-lower}
 use Rattle.tables.specs.Tables.{HoldsSets}
-use Rattle.hierarchy.specs.Tables.{Numbered, Lowest}
+use Rattle.sets.specs.Extremes.{LowestItem}
+use Rattle.hierarchy.specs.Tables.{Numbered}
 use Rattle.edit_order.specs.Ranking.{LowestOf}
 use Rattle.edit_order.specs.Work.{workLength, downStart, entries, holding, UpAndDown, Placed}
 
 -- ---- the first holders
 
 -- one set's lowest item put in; an empty one has none
-pub put-lowest : (r s x k : ℕ) → Lowest x k → r ≡ (if ltb k 128 then s ∪ single k else s) → (i : ℕ) → So (has r i) ↔ (So (has s i) ⊎ Lowest x i)
+pub put-lowest : (r s x k : ℕ) → LowestItem 128 x k → r ≡ (if ltb k 128 then s ∪ single k else s) → (i : ℕ) → So (has r i) ↔ (So (has s i) ⊎ LowestItem 128 x i)
 put-lowest r s x k low e i =
     let d : r ≡ s ∪ single k = e ∙ if-true (ltb k 128) (s ∪ single k) s (ltb-iff k 128 .1 (low .small)) in
-    let only : Lowest x i → k ≡ i = λ b. let y = low .least i (b .there) in let z = b .least k (low .there) in omega arith in (
+    let only : LowestItem 128 x i → k ≡ i = λ b. let y = low .least i (b .there) in let z = b .least k (low .there) in omega arith in (
       λ t. ⊎-elim (λ y. _⊎_.inl y) (λ y. let z : k ≡ i = single-iff k i .0 y in _⊎_.inr (rw z at low)) (∪-iff s (single k) i .0 (rw d at t)),
       λ t. rw d (∪-iff s (single k) i .1 (⊎-elim (λ y. _⊎_.inl y) (λ y. _⊎_.inr (single-iff k i .1 (only y))) t)),
     )
 
-pub put-none : (s x : ℕ) → x ≡ 0 → (i : ℕ) → So (has s i) ↔ (So (has s i) ⊎ Lowest x i)
+pub put-none : (s x : ℕ) → x ≡ 0 → (i : ℕ) → So (has s i) ↔ (So (has s i) ⊎ LowestItem 128 x i)
 put-none s x e i = (λ t. _⊎_.inl t, λ t. ⊎-elim (λ y. y) (λ y. absurd (So-not (has-zero i) (rw e at (y .there)))) t)
 
 pub lowest-none : (ws : List ℕ) (s : ℕ) → s ≡ 0 → LowestOf 0 ws s
 lowest-none ws s e i = (λ t. absurd (So-not (has-zero i) (rw e at t)), λ w. absurd (let l = w .1 in let z : ⊥ = omega arith in z))
 
 pub lowest-more : (n : ℕ) (ws : List ℕ) (s x s' : ℕ) → LowestOf n ws s → x ≡ setAt 2 ws (2 * n)
-    → ((i : ℕ) → So (has s' i) ↔ (So (has s i) ⊎ Lowest x i)) → LowestOf (n + 1) ws s'
+    → ((i : ℕ) → So (has s' i) ↔ (So (has s i) ⊎ LowestItem 128 x i)) → LowestOf (n + 1) ws s'
 lowest-more n ws s x s' inv ex step i = (
   λ t.
       ⊎-elim (λ y. let w = inv i .0 y in let l = w .1 in (w .0, omega arith, w .2)) (λ y. (n, omega arith, rw ex at y)) (step i .0 t),

@@ -5,7 +5,7 @@ ghost use Prim.Native.Nat.{ℕ, _*_, _≤_};
 ghost use lib.ListN.{length};
 ghost use Rattle.sets_128.specs.Held.{set128};
 ghost use Rattle.sets.specs.Sets.{has};
-ghost use Rattle.hierarchy.specs.Tables.{Lowest};
+ghost use Rattle.sets.specs.Extremes.{LowestItem};
 ghost use Rattle.edit_order.specs.Ranking.{LowestOf};
 use hierarchy::lowest_item;
 use sets_128::Set128;
@@ -13,7 +13,7 @@ use tables::load128;
 
 // The set with the lowest item of s in it, where s has one.
 fn with_lowest(found: Set128, s: Set128) -> Set128
-    ensures { λ r. ⌜ ((i : ℕ) → So (has (set128 r) i) ↔ (So (has (set128 found) i) ⊎ Lowest (set128 s) i)) ⌝ }
+    ensures { λ r. ⌜ ((i : ℕ) → So (has (set128 r) i) ↔ (So (has (set128 found) i) ⊎ LowestItem 128 (set128 s) i)) ⌝ }
 {
     if s.is_empty() {
         return found;

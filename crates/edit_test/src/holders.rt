@@ -4,6 +4,7 @@ ghost use mathlib.Core.Bool.{So};
 ghost use mathlib.Core.Logic.{_≢_};
 ghost use Prim.Native.Nat.{_*_, _≤_, _<_};
 ghost use lib.ListN.{length, getD};
+ghost use Rattle.sets.specs.Extremes.{LowestItem};
 ghost use Rattle.sets_256.specs.Held.{set256};
 ghost use Rattle.sets.specs.Sets.{has, collect};
 ghost use Rattle.model.specs.Lists.{setAt};
@@ -25,8 +26,7 @@ use tables::store128;
 // The lowest item of a set of permissions that has one.
 pub fn lowest_permission(s: Set256) -> usize
     requires { ⌜ set256 s ≢ 0 ⌝ }
-    ensures { λ r. ⌜ So (has (set256 s) r) ⌝ }
-    ensures { λ r. ⌜ r < 256 ⌝ }
+    ensures { λ r. ⌜ LowestItem 256 (set256 s) r ⌝ }
 {
     let Item::At(p) = s.lowest() else {
         return 0;

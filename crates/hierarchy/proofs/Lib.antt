@@ -1,4 +1,3 @@
-pub mod Extremes
 pub mod Sieving
 pub mod Building
 pub mod Seeking

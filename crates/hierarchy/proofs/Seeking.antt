@@ -19,7 +19,8 @@ use Rattle.model.proofs.Reading.{senior-iff, immediate-iff, junior-iff}
 use Rattle.model.proofs.Building.{stands-below}
 use Rattle.model.proofs.Shortcuts.{lower-iff}
 use Rattle.tables.specs.Tables.{HoldsSets}
-use Rattle.hierarchy.specs.Tables.{Numbered, Lowest, immediateSeniors}
+use Rattle.sets.specs.Extremes.{LowestItem}
+use Rattle.hierarchy.specs.Tables.{Numbered, immediateSeniors}
 use Rattle.hierarchy.proofs.Building.{ordered}
 
 -- i is an immediate senior of k
@@ -91,7 +92,7 @@ module _ (ρ : Roles) (n : Numbered ρ) (R : ℕ) (b : R < 2 ^ candidateCount ρ
               ))));
         }
 
-    module _ (found rest i : ℕ) (s : Sorted ρ R k found rest) (low : Lowest rest i) where
+    module _ (found rest i : ℕ) (s : Sorted ρ R k found rest) (low : LowestItem 128 rest i) where
       here : So (has R i)
       here = s .left i (low .there)
 
@@ -181,7 +182,7 @@ module _ (low : List ℕ) (R k : ℕ) where
     pub sought-start : (found rest : ℕ) → found ≡ 0 → rest ≡ R ∖ collect 128 (λ i. ltb i k) → Sought low R k found rest
     sought-start found rest ef er ρ n l b = rw ef (sorted-start ρ n R b k hk rest er)
 
-    pub sought-more : (found rest i under found' rest' : ℕ) → Sought low R k found rest → Lowest rest i → under ≡ setAt 2 low (2 * i)
+    pub sought-more : (found rest i under found' rest' : ℕ) → Sought low R k found rest → LowestItem 128 rest i → under ≡ setAt 2 low (2 * i)
         → found' ≡ (if has under k and eqb (under ∩ found) 0 then found ∪ single i else found) → rest' ≡ rest ∖ single i → Sought low R k found' rest'
     sought-more found rest i under found' rest' inv least eu ef er ρ n l b =
         let s = inv ρ n l b in

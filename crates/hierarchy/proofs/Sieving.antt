@@ -20,7 +20,8 @@ use Rattle.model.specs.Hierarchy.{Roles, candidateCount}
 use Rattle.model.specs.Indexes.{lower, maximal}
 use Rattle.model.proofs.Shortcuts.{maximal-iff, maximal-highest}
 use Rattle.tables.specs.Tables.{HoldsSets}
-use Rattle.hierarchy.specs.Tables.{Numbered, lessAll, Highest}
+use Rattle.sets.specs.Extremes.{HighestItem}
+use Rattle.hierarchy.specs.Tables.{Numbered, lessAll}
 
 pub lessAll-iff : (w : ℕ) (ws : List ℕ) (s js p : ℕ)
     → So (has (lessAll w ws s js) p)
@@ -76,7 +77,7 @@ pub maximal-none : (ρ : Roles) (s : ℕ) → s ≡ 0 → maximal ρ s ≡ 0
 maximal-none ρ s e = empty-of (maximal ρ s) (λ j t. So-not (has-zero j) (rw e at (maximal-iff ρ s j .0 t .1)))
 
 -- the highest is found, and goes with all that lies below it
-pub maximal-one : (ρ : Roles) → Numbered ρ → (found rest k : ℕ) → rest < 2 ^ candidateCount ρ → Highest rest k
+pub maximal-one : (ρ : Roles) → Numbered ρ → (found rest k : ℕ) → rest < 2 ^ candidateCount ρ → HighestItem 128 rest k
     → found ∪ maximal ρ rest ≡ found ∪ single k ∪ maximal ρ ((rest ∖ lower ρ k) ∖ single k)
 maximal-one ρ n found rest k b h =
     ap (λ (x : ℕ). found ∪ x) (maximal-highest ρ (n .lower) rest k b (h .there) (h .most))
@@ -120,7 +121,7 @@ Sieved index s found rest =
 pub sieved-start : (index : List ℕ) (s found : ℕ) → found ≡ 0 → Sieved index s found s
 sieved-start index s found e ρ n h b = (b, sym (ap (λ (x : ℕ). x ∪ maximal ρ s) e ∙ zero-∪ (maximal ρ s)))
 
-pub sieved-more : (index : List ℕ) (s found rest k found' x mid rest' : ℕ) → Sieved index s found rest → Highest rest k
+pub sieved-more : (index : List ℕ) (s found rest k found' x mid rest' : ℕ) → Sieved index s found rest → HighestItem 128 rest k
     → found' ≡ (if ltb k 128 then found ∪ single k else found) → x ≡ setAt 2 index (2 * k) → mid ≡ rest ∖ x → rest' ≡ mid ∖ single k
     → Sieved index s found' rest'
 sieved-more index s found rest k found' x mid rest' inv top ef ex em er ρ n h b =

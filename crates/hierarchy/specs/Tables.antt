@@ -28,14 +28,3 @@ immediateSeniors ρ R k = collect (candidateCount ρ) (λ i. has (immediateJunio
 -- the items of s that no entry of the table has whose number is in js
 unfoldable pub lessAll : ℕ → List ℕ → ℕ → ℕ → ℕ
 lessAll w ws s js = collect (64 * w) (λ p. has s p and none 128 (λ j. has js j and has (setAt w ws (w * j)) p))
-
--- the lowest and the highest item of a set
-pub record Lowest (s i : ℕ) : Type 0 where
-  pub there : So (has s i)
-  pub small : i < 128
-  pub least : (j : ℕ) → So (has s j) → i ≤ j
-
-pub record Highest (s i : ℕ) : Type 0 where
-  pub there : So (has s i)
-  pub small : i < 128
-  pub most : (j : ℕ) → So (has s j) → j ≤ i

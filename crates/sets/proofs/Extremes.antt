@@ -17,7 +17,7 @@ use Rattle.sets.specs.declared.item.Item.the-variants.{At, Nothing}
 use Rattle.sets.specs.Truth.{if_then_else_}
 use Rattle.sets.specs.Sets.{has}
 use Rattle.sets.specs.Words.{value}
-use Rattle.sets.specs.Extremes.{_otherwise_, itemAt, lowest, highest}
+use Rattle.sets.specs.Extremes.{_otherwise_, itemAt, lowest, highest, LowestItem, HighestItem}
 use Rattle.sets.proofs.Truth.{by-test, So-not, eqb-iff, either, equal-or, below-suc, if-true, if-false}
 use Rattle.sets.proofs.Items.{digit, has-zero, has-first, has-rest, has-low, has-above, item-below, empty-of}
 use Rattle.sets.proofs.Words.{Words, has-shift}
@@ -176,6 +176,19 @@ lowest-≤ n s i j e t = either j i (λ l. absurd (So-not (lowest-iff n s i .0 e
 
 pub highest-≥ : (n s i j : ℕ) → s < 2 ^ n → highest n s ≡ At i → So (has s j) → j ≤ i
 highest-≥ n s i j l e t = either i j (λ h. absurd (So-not (highest-iff n s i .0 e .2 j h (item-below n s j l t)) t)) (λ h. h)
+
+-- so an item that is found is the lowest, or the highest, in plain words; and one is found where the set is not empty
+pub lowest-known : (n s i : ℕ) → lowest n s ≡ At i → LowestItem n s i
+lowest-known n s i e = let a = lowest-iff n s i .0 e in record { there = a .1; small = a .0; least = λ j t. lowest-≤ n s i j e t }
+
+pub highest-known : (n s i : ℕ) → s < 2 ^ n → highest n s ≡ At i → HighestItem n s i
+highest-known n s i b e = let a = highest-iff n s i .0 e in record { there = a .1; small = a .0; most = λ j t. highest-≥ n s i j b e t }
+
+pub lowest-some : (n s : ℕ) → s < 2 ^ n → s ≢ 0 → lowest n s ≡ Nothing → ⊥
+lowest-some n s b d e = d (lowest-none-iff n s b .0 e)
+
+pub highest-some : (n s : ℕ) → s < 2 ^ n → s ≢ 0 → highest n s ≡ Nothing → ⊥
+highest-some n s b d e = d (highest-none-iff n s b .0 e)
 
 -- ---- two parts of a set: w below k, and X above
 

@@ -34,13 +34,13 @@ lowest-permission-requires : tie.Need-lowest-permission-requires Inv-loop μ-loo
 lowest-permission-requires c κs = not-empty _ _ (c .before .is-empty .ensures) (c .if1 .taken)
 
 mul-store128 : tie.Need-mul-store128 Inv-loop μ-loop
-mul-store128 c = let l = c .before .lowest-permission .ensures .1 in omega arith
+mul-store128 c = let l = c .before .lowest-permission .ensures .small in omega arith
 
 column-of-requires : tie.Need-column-of-requires Inv-loop μ-loop
 column-of-requires c κs = search needs
 
 store128-requires : tie.Need-store128-requires Inv-loop μ-loop
-store128-requires c κs = let l = c .before .before .lowest-permission .ensures .1 in omega arith
+store128-requires c κs = let l = c .before .before .lowest-permission .ensures .small in omega arith
 
 remove-requires : tie.Need-remove-requires Inv-loop μ-loop
 remove-requires c κs = search needs
@@ -48,7 +48,7 @@ remove-requires c κs = search needs
 loop-less : tie.Need-loop-less Inv-loop μ-loop
 loop-less c =
     let column = c .before .before .before .before in
-    rw (c .remove .ensures) (fewer _ _ (column .before .before .lowest-permission .ensures .0))
+    rw (c .remove .ensures) (fewer _ _ (column .before .before .lowest-permission .ensures .there))
 
 small : (c : tie.After-column-of Inv-loop μ-loop) → set128 (c .column-of .result) < 2 ^ 128
 small c = search (words, held128)
@@ -57,7 +57,7 @@ loop-again : tie.Need-loop-again Inv-loop μ-loop
 loop-again c =
     let column = c .before .before .before .before in
     let lowest = column .before .before in
-    let l = lowest .lowest-permission .ensures .1 in (
+    let l = lowest .lowest-permission .ensures .small in (
       omega arith,
       rw (c .remove .ensures, c .before .before .before .store128 .ensures)
           (held-more _ _ _ _ _ _ (lowest .before .before .before .loop .inv .1) (omega arith) (small column) (column .column-of .ensures)),

@@ -5,7 +5,7 @@ use Prim.Native.Nat.{_<_, _^_}
 use Rattle.sets_256.specs.Held.{set256}
 use Rattle.sets.proofs.Written.{words}
 use Rattle.sets_256.proofs.Held.{held256}
-use Rattle.sets.proofs.Extremes.{lowest-iff, lowest-none-iff}
+use Rattle.sets.proofs.Extremes.{lowest-known, lowest-some}
 use Rattle.edit_test.proofs.holders.lowest_permission.Statement.{statement}
 use Rattle.edit_test.proofs.holders.lowest_permission.Tie as tie
 
@@ -21,12 +21,10 @@ enum-told c = search needs
 returns : tie.Need-returns
 returns c =
     let b : set256 (c .before .before .before .args .s) < 2 ^ 256 = search (words, held256) in
-    absurd (c .before .before .before .pre (lowest-none-iff 256 _ b .0 (sym (c .before .before .lowest .ensures) ∙ c .enum-told .given .1)))
+    absurd (lowest-some 256 _ b (c .before .before .before .pre) (sym (c .before .before .lowest .ensures) ∙ c .enum-told .given .1))
 
 returns-2 : tie.Need-returns-2
-returns-2 c =
-    let a = lowest-iff 256 _ _ .0 (sym (c .before .before .before .lowest .ensures) ∙ c .before .p .given .1) in
-    (a .1, a .0)
+returns-2 c = lowest-known 256 _ _ (sym (c .before .before .before .lowest .ensures) ∙ c .before .p .given .1)
 
 pub lowest-permission-spec : {M : Type 1} → statement M
 lowest-permission-spec = tie.close (tie.spec lowest-requires enum-known-p enum-told returns returns-2)

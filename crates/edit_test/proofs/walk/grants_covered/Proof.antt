@@ -80,13 +80,13 @@ lowest-permission-requires : tie.Need-lowest-permission-requires Inv-loop μ-loo
 lowest-permission-requires c κs = not-empty _ _ (c .before .is-empty2 .ensures) (c .if2 .taken)
 
 mul-load128-2 : tie.Need-mul-load128-2 Inv-loop μ-loop Inv-walk μ-walk
-mul-load128-2 c = let l = c .lowest-permission .ensures .1 in omega arith
+mul-load128-2 c = let l = c .lowest-permission .ensures .small in omega arith
 
 add-load128-2 : tie.Need-add-load128-2 Inv-loop μ-loop Inv-walk μ-walk
-add-load128-2 c = let l = c .lowest-permission .ensures .1 in omega arith
+add-load128-2 c = let l = c .lowest-permission .ensures .small in omega arith
 
 load128-requires-3 : tie.Need-load128-requires-3 Inv-loop μ-loop Inv-walk μ-walk
-load128-requires-3 c κs = let l = c .lowest-permission .ensures .1 in omega arith
+load128-requires-3 c κs = let l = c .lowest-permission .ensures .small in omega arith
 
 intersection-requires-3 : tie.Need-intersection-requires-3 Inv-loop μ-loop Inv-walk μ-walk
 intersection-requires-3 c κs = search needs
@@ -98,7 +98,7 @@ remove-requires : tie.Need-remove-requires Inv-loop μ-loop Inv-walk μ-walk
 remove-requires c κs = search needs
 
 loop-less : tie.Need-loop-less Inv-loop μ-loop Inv-walk μ-walk
-loop-less c = rw (c .remove .ensures) (fewer _ _ (c .before .before .before .before .before .lowest-permission .ensures .0))
+loop-less c = rw (c .remove .ensures) (fewer _ _ (c .before .before .before .before .before .lowest-permission .ensures .there))
 
 loop-again : tie.Need-loop-again Inv-loop μ-loop Inv-walk μ-walk
 loop-again c =
@@ -107,7 +107,7 @@ loop-again c =
     let own = at .before .before .before in (
       at .loop .inv .0,
       rw (c .remove .ensures)
-          (asking-more _ _ _ _ _ _ _ _ _ _ _ _ (at .loop .inv .1) (asked .lowest-permission .ensures .0) (own .before .load1282 .ensures) (own .intersection .ensures)
+          (asking-more _ _ _ _ _ _ _ _ _ _ _ _ (at .loop .inv .1) (asked .lowest-permission .ensures .there) (own .before .load1282 .ensures) (own .intersection .ensures)
           (c .before .before .before .before .load1283 .ensures) (c .before .before .before .intersection3 .ensures) (c .before .before .is-empty3 .ensures) (c .before .if3 .left)),
     )
 
