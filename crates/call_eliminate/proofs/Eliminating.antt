@@ -14,7 +14,7 @@ use Rattle.model.specs.Calls.{unfit, edit}
 use Rattle.stores.specs.Stores.{putAt}
 use Rattle.stores.proofs.Stores.{length-putAt, part-back, part-stored}
 use Rattle.rows.specs.Linked.{Ready}
-use Rattle.edit_order.specs.Work.{workLength, downStart}
+use Rattle.edit_work.specs.Work.{workLength, downStart}
 use Rattle.edit_trials.specs.declared.progress.Progress.{Progress}
 use Rattle.edit_trials.specs.Trying.{runAt}
 use Rattle.edit_eliminate.specs.Passing.{EliminationEnded}

@@ -30,7 +30,7 @@ use Rattle.quality.specs.declared.weights.Weights.{Weights}
 use Rattle.quality.specs.Numbers.{countsIn, weightsIn, toleranceIn, mostQuality}
 use Rattle.edit_trials.specs.Trying.{runAt, Exact, SameCrewList}
 use Rattle.edit_trials.proofs.Runs.{roles-count, ready-few, crew-same, crew-trans, crew-roles}
-use Rattle.edit_order.specs.Work.{IndexedFor, downStart, Prepared}
+use Rattle.edit_work.specs.Work.{IndexedFor, downStart, Prepared}
 use Rattle.edit_eliminate.specs.declared.turn.Terms.{Terms}
 use Rattle.edit_eliminate.specs.declared.turn.Turn.{Turn}
 use Rattle.edit_eliminate.specs.Passing.{mostExamined, takeUpBy, runIn, Underway, RunReached, EliminationEnded}

@@ -25,8 +25,8 @@ use Rattle.rows.specs.Linked.{Ready}
 use Rattle.edit_trials.specs.Trying.{runAt, SameCrewList}
 use Rattle.edit_trials.proofs.Runs.{roles-count, ready-few, crew-same, crew-trans, crew-roles}
 use Rattle.edit_order.specs.Ranking.{Keyed, NextRole}
-use Rattle.edit_order.specs.Work.{workLength, downStart, ranksStart, Prepared, PreparedFor}
-use Rattle.edit_order.proofs.Work.{take-unchanged, unchanged-take, prepared-same, seniors-prepared, seniors-ranks}
+use Rattle.edit_work.specs.Work.{workLength, downStart, ranksStart, Prepared, PreparedFor}
+use Rattle.edit_work.proofs.Work.{take-unchanged, unchanged-take, prepared-same, seniors-prepared, seniors-ranks}
 use Rattle.edit_eliminate.specs.declared.turn.Terms.{Terms}
 use Rattle.edit_eliminate.specs.declared.turn.Turn.{Turn}
 use Rattle.edit_eliminate.specs.Passing.{mostExamined, takeUpBy, runIn, Stand, Underway, RunReached, ByRedundancy}

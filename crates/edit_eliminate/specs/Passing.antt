@@ -18,7 +18,7 @@ use Rattle.quality.specs.Numbers.{weightsIn, toleranceIn, mostQuality}
 use Rattle.edit_trials.specs.declared.progress.Progress.{Progress}
 use Rattle.edit_trials.specs.Trying.{runAt, SameCrewList, InStep}
 use Rattle.edit_order.specs.Ranking.{Keyed}
-use Rattle.edit_order.specs.Work.{ranksStart, ranksLength}
+use Rattle.edit_work.specs.Work.{ranksStart, ranksLength}
 use Rattle.edit_eliminate.specs.declared.turn.Terms.{Terms}
 use Rattle.edit_eliminate.specs.declared.turn.Turn.{Turn}
 

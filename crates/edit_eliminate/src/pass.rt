@@ -8,17 +8,17 @@ ghost use Rattle.model.specs.Machine.{pass};
 ghost use Rattle.model.specs.Record.{recordLength, stateOf};
 ghost use Rattle.model.specs.State.{rolesOf};
 ghost use Rattle.indexes.specs.Index.{indexLength};
-ghost use Rattle.edit_order.specs.Work.{workLength, downStart, Prepared};
+ghost use Rattle.edit_work.specs.Work.{workLength, downStart, Prepared};
 ghost use Rattle.edit_eliminate.specs.Passing.{mostExamined, Allowed, takeUpBy, runIn, Underway, RunReached, ByRedundancy};
 use crate::turn::Terms;
 use crate::turn::Turn;
 use crate::turn::take_up;
-use edit_order::DOWN;
-use edit_order::RANKS;
-use edit_order::SENIORS;
-use edit_order::WORK_LENGTH;
 use edit_order::fill_ranks;
 use edit_order::foremost;
+use edit_work::DOWN;
+use edit_work::RANKS;
+use edit_work::SENIORS;
+use edit_work::WORK_LENGTH;
 use sets_128::Set128;
 
 // Takes up each role of the worklist, the ranks in falling order.

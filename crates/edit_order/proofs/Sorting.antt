@@ -26,8 +26,8 @@ use Rattle.tables.proofs.Parts.{setAt-part}
 use Rattle.tables.proofs.Stores.{stored-back, stored-before, stored-after}
 use Rattle.indexes.proofs.Sources.{setAt-zero}
 use Rattle.edit_order.specs.Ranking.{Keyed}
-use Rattle.edit_order.specs.Work.{workLength, ranksStart, ranksLength, entry, Unchanged, Prepared, PreparedFor}
-use Rattle.edit_order.proofs.Work.{unchanged-below, unchanged-take, prepared-same}
+use Rattle.edit_work.specs.Work.{workLength, ranksStart, ranksLength, entry, Unchanged, Prepared, PreparedFor}
+use Rattle.edit_work.proofs.Work.{unchanged-below, unchanged-take, prepared-same}
 
 -- one word more is zero
 pub zero-more : (ws : List ℕ) (i : ℕ) → ((j : ℕ) → j < i → getD ws j 0 ≡ 0) → i < length ws → (j : ℕ) → j < i + 1 → getD (set ws i 0) j 0 ≡ 0

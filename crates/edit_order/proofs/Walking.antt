@@ -27,8 +27,8 @@ use Rattle.model.specs.State.{State, rolesOf}
 use Rattle.model.proofs.Ends.{AtMost, redundancy-iff, redundancy-ends, nearer-holder, nearer-user, sure-holders}
 use Rattle.model.proofs.Shortcuts.{downFrom-iff}
 use Rattle.edit_order.specs.Ranking.{LeastTo}
-use Rattle.edit_order.specs.Work.{workLength, downStart, upStart, samplesStart, holdingStart, furtherStart, firstStart, entry, holding, further, Prepared, PreparedFor}
-use Rattle.edit_order.proofs.Sampling.{with-roles-iff}
+use Rattle.edit_work.specs.Work.{workLength, downStart, upStart, samplesStart, holdingStart, furtherStart, firstStart, entry, holding, further, Prepared, PreparedFor}
+use Rattle.edit_work.proofs.Sampling.{with-roles-iff}
 
 -- what a test of two numbers picks
 pub if-below : (a b x y : ℕ) → a < b → x ≡ (if ltb a b then x else y)
@@ -86,10 +86,6 @@ module _ (b s : ℕ) (P : ℕ → ℕ → Type 0) (m rest : ℕ) (inv : Left b s
   -- a number that is no more than any is no more than what the next item leaves
   left-above : (i m' : ℕ) → So (has rest i) → ((x : ℕ) → x ≤ m → P x i → x ≤ m') → (x : ℕ) → x ≤ b → ((j : ℕ) → So (has s j) → P x j) → x ≤ m'
   left-above i m' there step x l h = let a = inv .same x .0 (l, h) in step x (a .0) (a .1 i there)
-
--- what is dropped has the item that is done, so fewer are left
-pub dropped-fewer : (s d i : ℕ) → So (has s i) → So (has d i) → ones (s ∖ d) < ones s
-dropped-fewer s d i h t = let a = ones-∖ s d in let b = ones-some (s ∩ d) i (∩-iff s d i .1 (h, t)) in omega arith
 
 -- ---- one sample: `own` are the roles counted that it has
 

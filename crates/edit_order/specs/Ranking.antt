@@ -8,11 +8,6 @@ use Prim.Native.Nat.{ℕ, _*_, _^_, _≤_, _<_}
 use Rattle.sets.specs.Sets.{has}
 use Rattle.model.specs.Lists.{setAt}
 use Rattle.model.specs.Machine.{foremost}
-use Rattle.sets.specs.Extremes.{LowestItem}
-
--- the items of s are the lowest ones of the first n entries of the table
-abbrev pub LowestOf : ℕ → List ℕ → ℕ → Type 0
-LowestOf n ws s = (i : ℕ) → So (has s i) ↔ ((j : ℕ) × (j < n) × LowestItem 128 (setAt 2 ws (2 * j)) i)
 
 -- m is no more than b, and no less than the least of b and of f at the items of s; above `floor` it is that least. A search for the least may
 -- stop at a number that is no more than `floor`.

@@ -5,7 +5,7 @@ ghost use Prim.Native.Nat.{_≤_};
 ghost use lib.ListN.{length};
 ghost use Rattle.sets_128.specs.Held.{set128};
 ghost use Rattle.edit_order.specs.Ranking.{NextRole};
-ghost use Rattle.edit_order.specs.Work.{ranksLength};
+ghost use Rattle.edit_work.specs.Work.{ranksLength};
 use hierarchy::lowest_item;
 use sets_128::Set128;
 use tables::load128;

@@ -14,7 +14,7 @@ use Rattle.sets.specs.Truth.{_and_, _or_, isnt, bit, total}
 use Rattle.sets.specs.Sets.{has, _∩_, _∪_, _∖_, single, subset, properSubset, collect}
 use Rattle.sets.proofs.Truth.{So-not, equal-or, below-suc, total-same}
 use Rattle.sets.proofs.Items.{digit, has-top, has-∩, has-∪, has-∖, has-low, empty-of, below-power}
-use Rattle.sets.proofs.Order.{single-iff, has-with, with-without, ∖-iff, ∖-lt, ∩-lt, ∪-lt, subset-iff, subset-∩-eq, ∩-comm, proper-iff, proper-lacks, has-collect, collect-lt}
+use Rattle.sets.proofs.Order.{∩-iff, single-iff, has-with, with-without, ∖-iff, ∖-lt, ∩-lt, ∪-lt, subset-iff, subset-∩-eq, ∩-comm, proper-iff, proper-lacks, has-collect, collect-lt}
 
 -- ---- sums
 
@@ -159,3 +159,7 @@ pub ones-collect : (n : ℕ) (f : ℕ → Bool) → ones (collect n f) ≡ total
 ones-collect n f =
     ones-total n (collect n f) (collect-lt n f)
     ∙ total-same n (λ i. bit (has (collect n f) i)) (λ i. bit (f i)) (λ i l. ap bit (has-collect n f i l))
+
+-- what is left has fewer items where something is taken away
+pub dropped-fewer : (s d i : ℕ) → So (has s i) → So (has d i) → ones (s ∖ d) < ones s
+dropped-fewer s d i h t = let a = ones-∖ s d in let b = ones-some (s ∩ d) i (∩-iff s d i .1 (h, t)) in omega arith

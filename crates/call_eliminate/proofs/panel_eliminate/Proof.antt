@@ -13,7 +13,7 @@ use Rattle.model.proofs.Refusals.{unfit-iff, eliminate-check}
 use Rattle.model.proofs.Sound.{sound-counts}
 use Rattle.stores.proofs.Stores.{blank-part}
 use Rattle.rows.specs.Linked.{Ready}
-use Rattle.edit_order.specs.Work.{workLength, downStart}
+use Rattle.edit_work.specs.Work.{workLength, downStart}
 use Rattle.quality.specs.Numbers.{weightsIn, toleranceIn, weightsOf, toleranceOf}
 use Rattle.calls_edit.proofs.Edits.{edit-unfit, edit-refused, fit-length, fit-few}
 use Rattle.call_eliminate.proofs.Eliminating.{entered-size, entered-ready, refused, run-ended}

@@ -11,7 +11,7 @@ use Rattle.model.specs.State.{rolesOf}
 use Rattle.indexes.specs.Index.{Indexed, AllHolders}
 use Rattle.quality.specs.Numbers.{weightsIn}
 use Rattle.edit_trials.proofs.Runs.{ready-few, ready-weighed}
-use Rattle.edit_order.specs.Work.{downStart}
+use Rattle.edit_work.specs.Work.{downStart}
 use Rattle.edit_eliminate.specs.declared.turn.Turn.{Turn}
 use Rattle.edit_eliminate.specs.Passing.{RunReached}
 use Rattle.edit_eliminate.proofs.Running.{ended-at-once, permissions-few, index-of, all-held, first-turn, all-prepared}

@@ -8,7 +8,7 @@ use lib.ListN.{length}
 use Rattle.sets_128.specs.Held.{set128}
 use Rattle.sets.proofs.Truth.{So-not, eqb-iff}
 use Rattle.model.specs.Record.{recordLength}
-use Rattle.edit_order.specs.Work.{workLength}
+use Rattle.edit_work.specs.Work.{workLength}
 use Rattle.edit_trials.proofs.Runs.{ready-few}
 use Rattle.edit_eliminate.proofs.Running.{Running, running-start, running-empty, running-last, running-more, running-out}
 use Rattle.edit_eliminate.proofs.all.run_passes.Statement.{statement}

@@ -4,7 +4,7 @@ use borrow.Author.Needs.{needs}
 use mathlib.Core.Path.{_≡_, refl}
 use native.Mathlib.Omega.{arith}
 use lib.ListN.{length}
-use Rattle.edit_order.specs.Work.{workLength}
+use Rattle.edit_work.specs.Work.{workLength}
 use Rattle.edit_eliminate.proofs.Taking.{ranks-asked, ranks-filled}
 use Rattle.edit_eliminate.proofs.pass.pass.Statement.{statement}
 use Rattle.edit_eliminate.proofs.pass.pass.Tie as tie

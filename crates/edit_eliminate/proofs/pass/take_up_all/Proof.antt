@@ -10,7 +10,7 @@ use Rattle.sets_128.specs.Held.{set128}
 use Rattle.hierarchy.proofs.Sieving.{fewer, not-empty, is-empty}
 use Rattle.model.specs.Record.{recordLength}
 use Rattle.stores.proofs.Stores.{part-back}
-use Rattle.edit_order.specs.Work.{downStart}
+use Rattle.edit_work.specs.Work.{downStart}
 use Rattle.edit_eliminate.proofs.Taking.{Taking, taking-start, taking-bound, taking-more, taking-all}
 use Rattle.edit_eliminate.proofs.pass.take_up_all.Statement.{statement}
 use Rattle.edit_eliminate.proofs.pass.take_up_all.Tie as tie

@@ -11,7 +11,7 @@ use Rattle.sets_128.specs.Held.{set128}
 use Rattle.sets.proofs.Written.{words}
 use Rattle.sets_128.proofs.Held.{held128}
 use Rattle.hierarchy.proofs.Sieving.{fewer, not-empty, is-empty}
-use Rattle.edit_order.specs.Work.{workLength, ranksStart}
+use Rattle.edit_work.specs.Work.{workLength, ranksStart}
 use Rattle.edit_order.proofs.Sorting.{Cleared, cleared, Sorting, sorting-start, sorting-ready, sorting-more, sorting-all}
 use Rattle.edit_order.proofs.ranks.fill_ranks.Statement.{statement}
 use Rattle.edit_order.proofs.ranks.fill_ranks.Tie as tie

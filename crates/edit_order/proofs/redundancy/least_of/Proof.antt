@@ -8,7 +8,7 @@ use lib.Count.{ones}
 use Rattle.sets_128.specs.Held.{set128}
 use Rattle.sets.specs.Sets.{_∩_}
 use Rattle.hierarchy.proofs.Sieving.{not-empty, is-empty}
-use Rattle.edit_order.specs.Work.{samplesStart, entry}
+use Rattle.edit_work.specs.Work.{samplesStart, entry}
 use Rattle.edit_order.proofs.Walking.{Asking, HolderAsked, asked, asking-start, asking-more, asking-fewer, asking-stop, asking-all}
 use Rattle.edit_order.proofs.redundancy.least_of.Statement.{statement}
 use Rattle.edit_order.proofs.redundancy.least_of.Tie as tie

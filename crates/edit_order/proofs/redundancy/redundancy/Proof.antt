@@ -9,7 +9,7 @@ use lib.ListN.{length}
 use Rattle.sets_128.specs.Held.{set128}
 use Rattle.sets.specs.Sets.{_∩_}
 use Rattle.hierarchy.proofs.Sieving.{not-empty, is-empty}
-use Rattle.edit_order.specs.Work.{workLength}
+use Rattle.edit_work.specs.Work.{workLength}
 use Rattle.edit_order.proofs.Walking.{Walking, WalkBegun, in-work, holders-below, walking-start, walking-more, walking-fewer, walking-stop, walking-all}
 use Rattle.edit_order.proofs.redundancy.redundancy.Statement.{statement}
 use Rattle.edit_order.proofs.redundancy.redundancy.Tie as tie

@@ -1,0 +1,4 @@
+pub mod Work
+pub mod Reaching
+pub mod Sampling
+pub mod Narrowing
