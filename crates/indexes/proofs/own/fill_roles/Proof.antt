@@ -27,8 +27,11 @@ abbrev μ-loop : tie.MeasureT-loop
 μ-loop crew at n table c low₀ out₀ own₀ u₀ low out own u = n - u
 
 -- the places that the answers look back to
+abbrev lent : tie.After-slice-known2 Inv-loop μ-loop → tie.Start Inv-loop μ-loop
+lent c = c .before .before .before .before
+
 abbrev start : tie.At-loop Inv-loop μ-loop → tie.Start Inv-loop μ-loop
-start c = c .before .before .before .before .before .before .before
+start c = lent (c .before .before .before)
 
 abbrev in-loop : tie.After-own-roles Inv-loop μ-loop → tie.In-loop Inv-loop μ-loop
 in-loop c = c .before .before .before

@@ -36,8 +36,11 @@ abbrev μ-loop : tie.MeasureT-loop
 μ-loop roles users c low₀ some rest₀ low rest = ones (set128 rest)
 
 -- the places that the answers look back to
+abbrev lent : tie.After-slice-known Inv-loop μ-loop → tie.Start Inv-loop μ-loop
+lent c = c .before .before .before
+
 abbrev start : tie.After-difference Inv-loop μ-loop → tie.Start Inv-loop μ-loop
-start c = c .before .before .before .before .before .before .before
+start c = lent (c .before .before .before .before)
 
 abbrev at-loop : tie.After-lowest-item Inv-loop μ-loop → tie.At-loop Inv-loop μ-loop
 at-loop c = c .before .before .before

@@ -12,8 +12,11 @@ use Rattle.indexes.proofs.state.fill_index.Statement.{statement}
 use Rattle.indexes.proofs.state.fill_index.Tie as tie
 
 -- the places that the answers look back to
+abbrev lent : tie.After-slice-known → tie.Start
+lent c = c .before .before
+
 abbrev start : tie.After-fill-tables → tie.Start
-start c = c .before .before .before .before .before .before
+start c = lent (c .before .before .before .before)
 
 abbrev tabled : tie.After-copy-arg → tie.After-fill-tables
 tabled c = c .before .before .before .before .before

@@ -6,8 +6,8 @@ use Rattle.records.proofs.begin.complete_record.Statement.{statement}
 use Rattle.records.proofs.begin.complete_record.Tie as tie
 
 -- the places that the answers look back to
-abbrev start : tie.After-fill-index → tie.Start
-start c = c .before .before .before .before .before .before
+abbrev start : tie.After-fill-index-arg2 → tie.Start
+start c = c .before .before .before .before .before
 
 abbrev filled : tie.After-build-rows-arg3 → tie.After-fill-index
 filled c = c .before .before .before .before .before
@@ -17,7 +17,7 @@ fill-index-requires c κs = search needs
 
 build-rows-requires : tie.Need-build-rows-requires
 build-rows-requires c κs =
-    let given = start (filled c) .pre in
+    let given = start (filled c .before) .pre in
     (given .0 .size, (search needs, (search needs, (given .1 .1 .1, given .0 .few-candidates))))
 
 same-length : tie.Need-same-length

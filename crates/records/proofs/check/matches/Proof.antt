@@ -17,8 +17,11 @@ use Rattle.records.proofs.check.matches.Statement.{statement}
 use Rattle.records.proofs.check.matches.Tie as tie
 
 -- the places that the answers look back to
+abbrev lent : tie.After-slice-known3 → tie.Start
+lent c = c .before .before .before .before
+
 abbrev start : tie.After-load128 → tie.Start
-start c = c .before .before .before .before .before .before .before .before
+start c = lent (c .before .before .before .before)
 
 abbrev begun : tie.After-complete-record-arg3 → tie.After-begin-record
 begun c = c .before .before .before .before .before
@@ -26,8 +29,11 @@ begun c = c .before .before .before .before .before
 abbrev start-completed : tie.After-complete-record → tie.Start
 start-completed c = start (begun (c .before) .before)
 
+abbrev handed : tie.After-seniors → tie.After-complete-record
+handed c = c .before .before .before .before .before
+
 abbrev completed : tie.After-all-covered-arg2 → tie.After-complete-record
-completed c = c .before .before .before .before .before .before .before .before
+completed c = handed (c .before .before .before)
 
 abbrev start-covered : tie.After-all-covered → tie.Start
 start-covered c = start-completed (completed (c .before))

@@ -27,11 +27,14 @@ abbrev μ-loop : tie.MeasureT-loop
 μ-loop rec index n standing u₀ u = n - u
 
 -- the places that the answers look back to
-abbrev start : tie.In-loop Inv-loop μ-loop → tie.Start Inv-loop μ-loop
-start c = c .before .before .before .before .before .before
+abbrev start : tie.At-loop Inv-loop μ-loop → tie.Start Inv-loop μ-loop
+start c = c .before .before .before .before .before
+
+abbrev met : tie.After-user-covered Inv-loop μ-loop → tie.After-intersection Inv-loop μ-loop
+met c = c .before .before .before
 
 abbrev in-loop : tie.After-user-covered Inv-loop μ-loop → tie.In-loop Inv-loop μ-loop
-in-loop c = c .before .before .before .before .before .before
+in-loop c = met c .before .before .before
 
 shared-slice-read-n : tie.Need-shared-slice-read-n Inv-loop μ-loop
 shared-slice-read-n c = search needs
@@ -82,12 +85,12 @@ user-covered-requires : tie.Need-user-covered-requires Inv-loop μ-loop
 user-covered-requires c κs = search needs
 
 -- what the test of user u tells
-told : (c : tie.After-user-covered Inv-loop μ-loop) (st : State) → SourceOf st (start (in-loop c) .args .rec .now) crewStart → setAt 2 (start (in-loop c) .args .rec .now) 4 ≡ st .standing
-    → Indexed (rolesOf st) (start (in-loop c) .args .index .now) → c .user-covered .result ≡ eachGrantCovered st (in-loop c .before .loop .u)
+told : (c : tie.After-user-covered Inv-loop μ-loop) (st : State) → SourceOf st (start (in-loop c .before) .args .rec .now) crewStart → setAt 2 (start (in-loop c .before) .args .rec .now) 4 ≡ st .standing
+    → Indexed (rolesOf st) (start (in-loop c .before) .args .index .now) → c .user-covered .result ≡ eachGrantCovered st (in-loop c .before .loop .u)
 told c st src same ix =
     let lu = in-loop c .loop-test .taken in
     c .user-covered .ensures st _ _ _ _ _ src (ix .lower-roles) lu (c .before .before .load256 .ensures ∙ source-row st _ _ _ _ _ src _ lu)
-    (own-roles-are st _ (src .users) _ ix _ _ _ _ lu (c .before .before .before .before .load1282 .ensures) (c .before .before .before .intersection .ensures) (in-loop c .before .before .load128 .ensures ∙ same))
+    (own-roles-are st _ (src .users) _ ix _ _ _ _ lu (met c .before .load1282 .ensures) (met c .intersection .ensures) (in-loop c .before .before .load128 .ensures ∙ same))
 
 returns : tie.Need-returns Inv-loop μ-loop
 returns c =
