@@ -16,7 +16,7 @@ use Rattle.sets.specs.Sets.{has, _∩_, _∖_, subset, collect}
 use Rattle.sets.proofs.Truth.{by-test, either, So-not, if-true, if-false}
 use Rattle.sets.proofs.Items.{has-zero, item-below}
 use Rattle.sets.proofs.Order.{∩-iff, ∩-lt, ∖-iff, subset-refl, collect-iff, collect-lt}
-use Rattle.sets.proofs.Counts.{ones-some, ones-∖}
+use Rattle.sets.proofs.Counts.{ones-some, ones-∖, dropped-fewer}
 use Rattle.model.specs.Lists.{setAt}
 use Rattle.model.specs.Hierarchy.{Roles, candidateCount, permissionSet}
 use Rattle.model.specs.Coverage.{covers}

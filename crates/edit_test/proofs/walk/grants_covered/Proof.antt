@@ -137,7 +137,7 @@ returns c ρ a b =
     (λ n. went-through _ _ (n .1 ∙ walk .walk .inv .0) (walk-through _ _ _ _ _ _ (walk .walk .inv .1) (is-empty _ _ (c .before .is-empty .ensures) (n .0 .left)) ρ a b))
     (λ w.
     was-left _ _ (w .14)
-    (walk-bare _ _ _ _ _ _ _ _ _ _ _ _ (w .6 .inv .1) (w .9 .ensures .0) (w .2 .ensures) (w .3 .ensures) (w .10 .ensures) (w .11 .ensures) (w .12 .ensures) _ _ (walk .walk .inv .1)
+    (walk-bare _ _ _ _ _ _ _ _ _ _ _ _ (w .6 .inv .1) (w .9 .ensures .there) (w .2 .ensures) (w .3 .ensures) (w .10 .ensures) (w .11 .ensures) (w .12 .ensures) _ _ (walk .walk .inv .1)
     (w .1 .ensures .there) (w .13 .taken) ρ a b))
     (c .if1 .came))
 
