@@ -65,7 +65,8 @@ fn candidates(rec: &[u64]) -> u64
 // The line of role k.
 fn put_line(rec: &[u64], out: &mut [u8], at: usize, k: usize) -> usize
     requires { ⌜ Limited (now rec) × (k < 128) × (at + 217 ≤ length (now out)) ⌝ }
-    ensures { λ r. ⌜ (r ≡ at + length (wordsLine (now (rec .entry)) k)) × (now (out .exit) ≡ putAt (now (out .entry)) at (wordsLine (now (rec .entry)) k)) ⌝ }
+    ensures { λ r. ⌜ r ≡ at + length (wordsLine (now (rec .entry)) k) ⌝ }
+    ensures { λ r. ⌜ now (out .exit) ≡ putAt (now (out .entry)) at (wordsLine (now (rec .entry)) k) ⌝ }
 {
     let set = put_number(out, at, k as u64);
     let permissions = put_set256(rec, SETS + 4 * k, rec[1], out, set);
@@ -78,7 +79,8 @@ fn put_line(rec: &[u64], out: &mut [u8], at: usize, k: usize) -> usize
 // The line of role k where it stands.
 fn put_standing(rec: &[u64], out: &mut [u8], at: usize, k: usize) -> usize
     requires { ⌜ Limited (now rec) × (k < 128) × (at + 217 ≤ length (now out)) ⌝ }
-    ensures { λ r. ⌜ (r ≡ at + length (standingLine (now (rec .entry)) k)) × (now (out .exit) ≡ putAt (now (out .entry)) at (standingLine (now (rec .entry)) k)) ⌝ }
+    ensures { λ r. ⌜ r ≡ at + length (standingLine (now (rec .entry)) k) ⌝ }
+    ensures { λ r. ⌜ now (out .exit) ≡ putAt (now (out .entry)) at (standingLine (now (rec .entry)) k) ⌝ }
 {
     if !load128(rec, STANDING).contains(k) {
         return at;
@@ -88,8 +90,10 @@ fn put_standing(rec: &[u64], out: &mut [u8], at: usize, k: usize) -> usize
 
 // The lines of all standing roles.
 pub fn put_lines(rec: &[u64], out: &mut [u8], start: usize) -> usize
-    requires { ⌜ Limited (now rec) × (start + 27776 ≤ length (now out)) ⌝ }
-    ensures { λ r. ⌜ (r ≡ start + length (wordsLines (now (rec .entry)) (getD (now (rec .entry)) 2 0))) × (now (out .exit) ≡ putAt (now (out .entry)) start (wordsLines (now (rec .entry)) (getD (now (rec .entry)) 2 0))) ⌝ }
+    requires { ⌜ Limited (now rec) ⌝ }
+    requires { ⌜ start + 27776 ≤ length (now out) ⌝ }
+    ensures { λ r. ⌜ r ≡ start + length (wordsLines (now (rec .entry)) (getD (now (rec .entry)) 2 0)) ⌝ }
+    ensures { λ r. ⌜ now (out .exit) ≡ putAt (now (out .entry)) start (wordsLines (now (rec .entry)) (getD (now (rec .entry)) 2 0)) ⌝ }
 {
     let c = candidates(rec) as usize;
     let mut at = start;

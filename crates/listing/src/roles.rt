@@ -37,7 +37,8 @@ fn put_head(out: &mut [u8], count: u64, quality: u64) -> usize
 
 // The head and a line for each standing role.
 pub fn put_roles(rec: &[u64], out: &mut [u8]) -> usize
-    requires { ⌜ So (sound (now rec)) × (mostBytes ≤ length (now out)) ⌝ }
+    requires { ⌜ So (sound (now rec)) ⌝ }
+    requires { ⌜ mostBytes ≤ length (now out) ⌝ }
     ensures { λ r. ⌜ (r ≡ length (rolesText (stateOf (now (rec .entry))))) × (now (out .exit) ≡ putAt (now (out .entry)) 0 (rolesText (stateOf (now (rec .entry))))) × (r ≤ mostBytes) ⌝ }
 {
     let quality = panel_quality(rec, 1, 1, 1, 1).quality;

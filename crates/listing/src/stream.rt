@@ -13,8 +13,10 @@ const SPACE: usize = 16385;
 
 // Of any text of which the first n bytes of the input are as much as there was space for: its listing, if there is space for more than the longest.
 fn list_read(input: &[u8], n: usize, out: &mut [u8; MOST]) -> usize
-    requires { ⌜ (longestText < length (now input)) × (n ≤ length (now input)) ⌝ }
-    ensures { λ r. ⌜ ((text : List ℕ) → take n (now (input .entry)) ≡ take (length (now (input .entry))) text → Listed text (now (out .entry)) (now (out .exit)) r) × (r ≤ length (now (out .exit))) ⌝ }
+    requires { ⌜ longestText < length (now input) ⌝ }
+    requires { ⌜ n ≤ length (now input) ⌝ }
+    ensures { λ r. ⌜ ((text : List ℕ) → take n (now (input .entry)) ≡ take (length (now (input .entry))) text → Listed text (now (out .entry)) (now (out .exit)) r) ⌝ }
+    ensures { λ r. ⌜ r ≤ length (now (out .exit)) ⌝ }
 {
     list_roles(&input[..n], out)
 }

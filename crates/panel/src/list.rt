@@ -99,7 +99,8 @@ fn serve_call(rec: &mut [u64], calls: &[u64], at: usize) -> Outcome
 // Makes all calls, each on the record as the one before left it, and writes every answer.
 fn serve_calls(rec: &mut [u64], calls: &[u64], out: &mut [u64])
     requires { ⌜ So (readable (now calls) (now out)) ⌝ }
-    ensures { λ r. ⌜ (now (rec .exit) ≡ wordsAfter (now (rec .entry)) (callsIn (now (calls .entry)))) × (now (out .exit) ≡ answerWords (repliesGiven (now (rec .entry)) (callsIn (now (calls .entry))))) ⌝ }
+    ensures { λ r. ⌜ now (rec .exit) ≡ wordsAfter (now (rec .entry)) (callsIn (now (calls .entry))) ⌝ }
+    ensures { λ r. ⌜ now (out .exit) ≡ answerWords (repliesGiven (now (rec .entry)) (callsIn (now (calls .entry)))) ⌝ }
 {
     let count = calls.len() / CALL;
     let mut i = 0;

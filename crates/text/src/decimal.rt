@@ -49,7 +49,8 @@ pub fn read_decimal(text: &[u8], at: usize) -> Decimal
 // Writes v in decimal from place `at` on; the place after it.
 pub fn put_decimal(out: &mut [u8], at: usize, v: u64) -> usize
     requires { ⌜ at + length (decimal v) ≤ length (now out) ⌝ }
-    ensures { λ r. ⌜ (r ≡ at + length (decimal v)) × (now (out .exit) ≡ putAt (now (out .entry)) at (decimal v)) ⌝ }
+    ensures { λ r. ⌜ r ≡ at + length (decimal v) ⌝ }
+    ensures { λ r. ⌜ now (out .exit) ≡ putAt (now (out .entry)) at (decimal v) ⌝ }
 {
     if v < 10 {
         out[at] = digit_byte(v);

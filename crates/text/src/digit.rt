@@ -24,7 +24,8 @@ fn digit_of(b: u8) -> u64
 
 // 16 past the end of the text.
 pub fn digit_at(text: &[u8], at: usize) -> u64
-    ensures { λ r. ⌜ (r ≡ digitAt (now (text .entry)) at) × (r ≤ 16) ⌝ }
+    ensures { λ r. ⌜ r ≡ digitAt (now (text .entry)) at ⌝ }
+    ensures { λ r. ⌜ r ≤ 16 ⌝ }
 {
     if at < text.len() {
         digit_of(text[at])

@@ -44,7 +44,8 @@ pub fn read_line_end(text: &[u8], at: usize) -> Field
 // Writes the bytes from place `at` on; the place after them.
 pub fn put_bytes(out: &mut [u8], at: usize, bytes: &[u8]) -> usize
     requires { ⌜ at + length (now bytes) ≤ length (now out) ⌝ }
-    ensures { λ r. ⌜ (r ≡ at + length (now (bytes .entry))) × (now (out .exit) ≡ putAt (now (out .entry)) at (now (bytes .entry))) ⌝ }
+    ensures { λ r. ⌜ r ≡ at + length (now (bytes .entry)) ⌝ }
+    ensures { λ r. ⌜ now (out .exit) ≡ putAt (now (out .entry)) at (now (bytes .entry)) ⌝ }
 {
     let mut i = 0;
     while i < bytes.len() {

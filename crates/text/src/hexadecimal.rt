@@ -44,7 +44,8 @@ pub fn read_hexadecimal(text: &[u8], at: usize, d: usize) -> Field
 
 // The word that d digits make.
 fn word_of(text: &[u8], at: usize, d: usize) -> u64
-    requires { ⌜ (d ≤ 16) × So (hexadecimalAt d (now text) at) ⌝ }
+    requires { ⌜ d ≤ 16 ⌝ }
+    requires { ⌜ So (hexadecimalAt d (now text) at) ⌝ }
     ensures { λ r. ⌜ r ≡ hexadecimalValue d (now (text .entry)) at ⌝ }
 {
     let mut v = 0;
@@ -65,7 +66,8 @@ fn above(d: usize) -> usize
 
 // The set that d digits make, the last 16 of them the lowest word. It stands beside `Field`, since an enum can't hold a set's words.
 pub fn hexadecimal_set(text: &[u8], at: usize, d: usize) -> Set256
-    requires { ⌜ (d ≤ 64) × So (hexadecimalAt d (now text) at) ⌝ }
+    requires { ⌜ d ≤ 64 ⌝ }
+    requires { ⌜ So (hexadecimalAt d (now text) at) ⌝ }
     ensures { λ r. ⌜ set256 r ≡ hexadecimalValue d (now (text .entry)) at ⌝ }
 {
     let a = above(d);
@@ -81,7 +83,8 @@ pub fn hexadecimal_set(text: &[u8], at: usize, d: usize) -> Set256
 // Writes the lowest d digits of s from place `at` on; the place after them.
 pub fn put_hexadecimal(out: &mut [u8], at: usize, s: Set256, d: usize) -> usize
     requires { ⌜ at + d ≤ length (now out) ⌝ }
-    ensures { λ r. ⌜ (r ≡ at + d) × (now (out .exit) ≡ putAt (now (out .entry)) at (hexadecimal d (set256 s))) ⌝ }
+    ensures { λ r. ⌜ r ≡ at + d ⌝ }
+    ensures { λ r. ⌜ now (out .exit) ≡ putAt (now (out .entry)) at (hexadecimal d (set256 s)) ⌝ }
 {
     let mut i = 0;
     while i < d {
@@ -95,7 +98,8 @@ pub fn put_hexadecimal(out: &mut [u8], at: usize, s: Set256, d: usize) -> usize
 // The same of a set of items below 128.
 pub fn put_hexadecimal_128(out: &mut [u8], at: usize, s: Set128, d: usize) -> usize
     requires { ⌜ at + d ≤ length (now out) ⌝ }
-    ensures { λ r. ⌜ (r ≡ at + d) × (now (out .exit) ≡ putAt (now (out .entry)) at (hexadecimal d (set128 s))) ⌝ }
+    ensures { λ r. ⌜ r ≡ at + d ⌝ }
+    ensures { λ r. ⌜ now (out .exit) ≡ putAt (now (out .entry)) at (hexadecimal d (set128 s)) ⌝ }
 {
     put_hexadecimal(out, at, Set256::from_words([s.word(0), s.word(1), 0, 0]), d)
 }

@@ -20,7 +20,8 @@ pub enum RowsEnd {
 // Reads n rows from place `start` on into empty words, which are of use only where all rows are read.
 pub fn read_rows(text: &[u8], start: usize, n: usize, m: usize, words: &mut [u64]) -> RowsEnd
     requires { ⌜ (n ≤ 128) × (m ≤ 256) × (now words ≡ laid []) ⌝ }
-    ensures { λ r. ⌜ (r ≡ rowsEnd (rowsTo (now (text .entry)) m start n)) × RowsLaid (rowsTo (now (text .entry)) m start n) (now (words .exit)) ⌝ }
+    ensures { λ r. ⌜ r ≡ rowsEnd (rowsTo (now (text .entry)) m start n) ⌝ }
+    ensures { λ r. ⌜ RowsLaid (rowsTo (now (text .entry)) m start n) (now (words .exit)) ⌝ }
 {
     let d = (m + 3) / 4;
     let allowed = Set256::below(m);
