@@ -8,8 +8,8 @@ ghost use Rattle.quality.specs.Numbers.{weightsIn, toleranceIn, weightsOf, tole
 ghost use Rattle.call_eliminate.specs.Results.{eliminateResult};
 use calls::enter;
 use calls::weights_refusal;
-use edit_eliminate::Terms;
 use edit_eliminate::eliminate_all;
+use edit_turn::Terms;
 use edit_work::DOWN;
 use edit_work::SENIORS;
 use edit_work::WORK_LENGTH;

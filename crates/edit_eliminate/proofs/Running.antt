@@ -31,10 +31,11 @@ use Rattle.quality.specs.Numbers.{countsIn, weightsIn, toleranceIn, mostQuality
 use Rattle.edit_trials.specs.Trying.{runAt, Exact, SameCrewList}
 use Rattle.edit_trials.proofs.Runs.{roles-count, ready-few, crew-same, crew-trans, crew-roles}
 use Rattle.edit_work.specs.Work.{IndexedFor, downStart, Prepared}
-use Rattle.edit_eliminate.specs.declared.turn.Terms.{Terms}
-use Rattle.edit_eliminate.specs.declared.turn.Turn.{Turn}
-use Rattle.edit_eliminate.specs.Passing.{mostExamined, takeUpBy, runIn, Underway, RunReached, EliminationEnded}
-use Rattle.edit_eliminate.proofs.Turns.{up-examined}
+use Rattle.edit_turn.specs.declared.Terms.{Terms}
+use Rattle.edit_turn.specs.declared.Turn.{Turn}
+use Rattle.edit_turn.specs.Turning.{mostExamined, takeUpBy, runIn, Underway, RunReached}
+use Rattle.edit_eliminate.specs.Passing.{EliminationEnded}
+use Rattle.edit_turn.proofs.Turns.{up-examined}
 use Rattle.edit_eliminate.proofs.Taking.{stand-few}
 
 -- what the code finds of the strikable roles

@@ -27,10 +27,11 @@ use Rattle.edit_trials.proofs.Runs.{roles-count, ready-few, crew-same, crew-tra
 use Rattle.edit_order.specs.Ranking.{Keyed, NextRole}
 use Rattle.edit_work.specs.Work.{workLength, downStart, ranksStart, Prepared, PreparedFor}
 use Rattle.edit_work.proofs.Work.{take-unchanged, unchanged-take, prepared-same, seniors-prepared, seniors-ranks}
-use Rattle.edit_eliminate.specs.declared.turn.Terms.{Terms}
-use Rattle.edit_eliminate.specs.declared.turn.Turn.{Turn}
-use Rattle.edit_eliminate.specs.Passing.{mostExamined, takeUpBy, runIn, Stand, Underway, RunReached, ByRedundancy}
-use Rattle.edit_eliminate.proofs.Turns.{up-examined, up-standing}
+use Rattle.edit_turn.specs.declared.Terms.{Terms}
+use Rattle.edit_turn.specs.declared.Turn.{Turn}
+use Rattle.edit_turn.specs.Turning.{mostExamined, takeUpBy, runIn, Stand, Underway, RunReached}
+use Rattle.edit_eliminate.specs.Passing.{ByRedundancy}
+use Rattle.edit_turn.proofs.Turns.{up-examined, up-standing}
 
 -- ---- what stands is below c, and at most 128 roles
 

@@ -1,7 +1,5 @@
 // The elimination: strikable roles struck, in passes, while the quality stays within the tolerance.
 mod all;
 mod pass;
-mod turn;
 
 pub use all::eliminate_all;
-pub use turn::Terms;

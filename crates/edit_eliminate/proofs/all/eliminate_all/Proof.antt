@@ -12,8 +12,8 @@ use Rattle.indexes.specs.Index.{Indexed, AllHolders}
 use Rattle.quality.specs.Numbers.{weightsIn}
 use Rattle.edit_trials.proofs.Runs.{ready-few, ready-weighed}
 use Rattle.edit_work.specs.Work.{downStart}
-use Rattle.edit_eliminate.specs.declared.turn.Turn.{Turn}
-use Rattle.edit_eliminate.specs.Passing.{RunReached}
+use Rattle.edit_turn.specs.declared.Turn.{Turn}
+use Rattle.edit_turn.specs.Turning.{RunReached}
 use Rattle.edit_eliminate.proofs.Running.{ended-at-once, permissions-few, index-of, all-held, first-turn, all-prepared}
 use Rattle.edit_eliminate.proofs.all.eliminate_all.Statement.{statement}
 use Rattle.edit_eliminate.proofs.all.eliminate_all.Tie as tie

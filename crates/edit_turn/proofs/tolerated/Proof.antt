@@ -2,9 +2,9 @@
 -- Assumes nothing.
 use borrow.Author.Needs.{needs}
 use native.Mathlib.Omega.{arith}
-use Rattle.edit_eliminate.proofs.Turns.{denominator-times, numerator-times}
-use Rattle.edit_eliminate.proofs.turn.tolerated.Statement.{statement}
-use Rattle.edit_eliminate.proofs.turn.tolerated.Tie as tie
+use Rattle.edit_turn.proofs.Turns.{denominator-times, numerator-times}
+use Rattle.edit_turn.proofs.tolerated.Statement.{statement}
+use Rattle.edit_turn.proofs.tolerated.Tie as tie
 
 mul-result : tie.Need-mul-result
 mul-result c = let p = denominator-times _ (c .before .pre .0) _ (c .before .pre .1 .0) in omega arith

@@ -34,9 +34,9 @@ use Rattle.edit_trials.specs.declared.progress.Progress.{Progress}
 use Rattle.edit_trials.specs.declared.trial.Trial.{Trial}
 use Rattle.edit_trials.specs.Trying.{runAt, SameCrewList, InStep, Tried}
 use Rattle.edit_trials.proofs.Runs.{crew-same, crew-now, crew-roles, strike-below, trial-state, trial-in-step}
-use Rattle.edit_eliminate.specs.declared.turn.Terms.{Terms}
-use Rattle.edit_eliminate.specs.declared.turn.Turn.{Turn}
-use Rattle.edit_eliminate.specs.Passing.{takeUpBy, runIn, Stand, Underway, RunReached}
+use Rattle.edit_turn.specs.declared.Terms.{Terms}
+use Rattle.edit_turn.specs.declared.Turn.{Turn}
+use Rattle.edit_turn.specs.Turning.{takeUpBy, runIn, Stand, Underway, RunReached}
 
 -- ---- products that can be formed
 

@@ -5,9 +5,9 @@ use mathlib.Core.Path.{refl}
 use native.Mathlib.Omega.{arith}
 use borrow.Author.Tests.{not-true, not-false}
 use Rattle.edit_trials.proofs.Runs.{strike-below, trial-few}
-use Rattle.edit_eliminate.proofs.Turns.{turn-dropped, turn-stayed, turn-struck}
-use Rattle.edit_eliminate.proofs.turn.take_up.Statement.{statement}
-use Rattle.edit_eliminate.proofs.turn.take_up.Tie as tie
+use Rattle.edit_turn.proofs.Turns.{turn-dropped, turn-stayed, turn-struck}
+use Rattle.edit_turn.proofs.take_up.Statement.{statement}
+use Rattle.edit_turn.proofs.take_up.Tie as tie
 
 -- the places that the answers look back to
 abbrev entry : tie.After-at → tie.Start

@@ -10,7 +10,7 @@ ghost use Rattle.model.specs.Record.{recordLength, stateOf};
 ghost use Rattle.model.specs.State.{rolesOf};
 ghost use Rattle.indexes.specs.Index.{indexLength};
 ghost use Rattle.quality.specs.Numbers.{toleranceIn, mostQuality};
-ghost use Rattle.edit_eliminate.specs.Passing.{mostExamined, Allowed, takeUpBy, runIn, Underway, RunReached};
+ghost use Rattle.edit_turn.specs.Turning.{mostExamined, Allowed, takeUpBy, runIn, Underway, RunReached};
 ghost use Rattle.tables.specs.Tables.{table128Length};
 use edit_rows::take_out_at;
 use edit_test::removable;
