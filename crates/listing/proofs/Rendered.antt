@@ -23,7 +23,7 @@ use Rattle.model.specs.Claim.{wordsAfter}
 use Rattle.model.specs.Calls.{Edited, Told, edit, qualityOf}
 use Rattle.model.proofs.Record.{sound-iff, read-users, read-permissions, read-count, read-set, rows-back}
 use Rattle.model.proofs.Bounds.{weightsAllowed-iff}
-use Rattle.model.specs.Conditions.{QualityConditions}
+use Rattle.model.proofs.Conditions.{quality-conditions}
 use Rattle.model.proofs.Refusals.{fit-then, weights-check}
 use Rattle.model.proofs.Calls.{told-code}
 use Rattle.model.proofs.Claim.{claim}
@@ -110,11 +110,11 @@ plain-allowed : So (weightsAllowed (weightsOf 1 1 1 1))
 unfolding weightsOf
 plain-allowed = weightsAllowed-iff (weightsOf 1 1 1 1) .1 (omega arith, omega arith, omega arith, omega arith)
 
-pub quality-is : (ws : List ℕ) (r : QualityAnswer) → So (sound ws) → qualityResult r ≡ qualityOf ws (weightsOf 1 1 1 1) → QualityConditions ws (weightsOf 1 1 1 1) (qualityResult r)
+pub quality-is : (ws : List ℕ) (r : QualityAnswer) → So (sound ws) → qualityResult r ≡ qualityOf ws (weightsOf 1 1 1 1)
     → r .quality ≡ quality (rolesOf (stateOf ws)) plainWeights (stateOf ws .standing)
 unfolding qualityResult qualityOf weightsOf plainWeights stateOf
-quality-is ws r h e given =
-    given .condition2 (ap (λ (t : Told). t .code) e ∙ told-code _ _ ∙ fit-then ws _ h ∙ weights-check (weightsOf 1 1 1 1) .passes plain-allowed)
+quality-is ws r h e =
+    quality-conditions ws (weightsOf 1 1 1 1) (qualityResult r) e .condition2 (ap (λ (t : Told). t .code) e ∙ told-code _ _ ∙ fit-then ws _ h ∙ weights-check (weightsOf 1 1 1 1) .passes plain-allowed)
 
 pub count-is : (ws : List ℕ) (n s : ℕ) → n ≡ ones s → s ≡ setAt 2 ws 4 → n ≡ ones (stateOf ws .standing)
 unfolding stateOf

@@ -16,12 +16,12 @@ mod stream;
 
 use crate::roles::put_refused;
 use crate::roles::put_roles;
-use panel::panel_eliminate;
-use panel::panel_mine;
-use panel::panel_read_crew;
-use panel::panel_review;
+use call_eliminate::panel_eliminate;
+use call_mine::panel_mine;
+use call_review::panel_review;
 pub use stream::list_stream;
 use tables::LENGTH;
+use text_crew::read_crew;
 
 // More than any text's roles need.
 pub const MOST: usize = 32768;
@@ -54,7 +54,7 @@ pub fn list_roles(text: &[u8], out: &mut [u8; MOST]) -> usize
     ensures { λ r. ⌜ (r ≡ length (listing (now (text .entry)))) × (now (out .exit) ≡ putAt (now (out .entry)) 0 (listing (now (text .entry)))) × (r ≤ length (now (out .exit))) ⌝ }
 {
     let mut rows = [0u64; 512];
-    let read = panel_read_crew(text, &mut rows);
+    let read = read_crew(text, &mut rows);
     if read.code != 0 {
         return put_refused(out, read.code);
     }

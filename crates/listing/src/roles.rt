@@ -9,7 +9,7 @@ ghost use Rattle.listing.specs.Listing.{headLine, refusedText, rolesText
 ghost use Rattle.listing.specs.Words.{mostBytes};
 use crate::lines::put_lines;
 use crate::lines::put_number;
-use panel::panel_quality;
+use call_quality::panel_quality;
 use tables::STANDING;
 use tables::load128;
 use text::put_bytes;

@@ -31,7 +31,7 @@ returns c =
     let at-panel-mine = at-if1 .before .before .before in
     let p = at-panel-mine .before .before .before .before .pre in
     listed-put _ _ _ _ _
-    (crew-refused _ _ _ _ zeros (p .0) (p .1) (p .2) _ _ (at-panel-mine .panel-mine .ensures .0) (at-if1 .if1 .taken))
+    (crew-refused _ _ _ _ zeros (p .0) (p .1) (p .2) _ _ (at-panel-mine .panel-mine .ensures) (at-if1 .if1 .taken))
     (c .before .before .put-refused .ensures)
 
 slice-aggregate-settle : tie.Need-slice-aggregate-settle
@@ -41,7 +41,7 @@ settle-requires : tie.Need-settle-requires
 settle-requires c κs =
     let at-panel-mine = c .before .before .before .before in
     let p = at-panel-mine .before .before .before .before .pre in
-    crew-sound _ _ _ _ zeros (p .0) (p .1) (p .2) _ _ (at-panel-mine .panel-mine .ensures .0) (c .before .if1 .left)
+    crew-sound _ _ _ _ zeros (p .0) (p .1) (p .2) _ _ (at-panel-mine .panel-mine .ensures) (c .before .if1 .left)
 
 slice-aggregate-put-roles : tie.Need-slice-aggregate-put-roles
 slice-aggregate-put-roles c = search needs
@@ -52,7 +52,7 @@ put-roles-requires c κs =
     let at-if1 = at-settle .before .before in
     let at-panel-mine = at-if1 .before .before .before in
     let p = at-panel-mine .before .before .before .before .pre in
-    let a = at-panel-mine .panel-mine .ensures .0 in
+    let a = at-panel-mine .panel-mine .ensures in
     (settled-sound _ _ _ _ zeros (p .0) (p .1) (p .2) _ _ a _ (at-if1 .if1 .left) (at-settle .settle .ensures), omega arith)
 
 same-length-2 : tie.Need-same-length-2
@@ -65,7 +65,7 @@ returns-2 c =
     let at-panel-mine = at-if1 .before .before .before in
     let p = at-panel-mine .before .before .before .before .pre in
     listed-put _ _ _ _ _
-    (settled-listed _ _ _ _ zeros (p .0) (p .1) (p .2) _ _ (at-panel-mine .panel-mine .ensures .0) _ (at-if1 .if1 .left) (at-settle .settle .ensures))
+    (settled-listed _ _ _ _ zeros (p .0) (p .1) (p .2) _ _ (at-panel-mine .panel-mine .ensures) _ (at-if1 .if1 .left) (at-settle .settle .ensures))
     (c .before .before .put-roles .ensures)
 
 pub list-crew-spec : {M : Type 1} → statement M

@@ -18,7 +18,7 @@ returns : tie.Need-returns
 returns c =
     let at-panel-eliminate = c .before .before .before .before .before .before in
     let start = at-panel-eliminate .before .before .before in
-    settle-is _ _ _ _ _ (start .pre) (at-panel-eliminate .panel-eliminate .ensures .0) (c .before .before .panel-review .ensures .0)
+    settle-is _ _ _ _ _ (start .pre) (at-panel-eliminate .panel-eliminate .ensures) (c .before .before .panel-review .ensures)
 
 pub settle-spec : {M : Type 1} → statement M
 settle-spec =

@@ -33,7 +33,7 @@ returns c =
     let start = at-panel-quality .before .before .before in
     roles-put _ _ _ _ _ _ _ _ (start .pre .0)
     (count-is _ _ _ (at-count .count .ensures) (at-load128 .load128 .ensures))
-    (quality-is _ _ (start .pre .0) (at-panel-quality .panel-quality .ensures .0) (at-panel-quality .panel-quality .ensures .1))
+    (quality-is _ _ (start .pre .0) (at-panel-quality .panel-quality .ensures))
     (at-put-head .put-head .ensures) (c .before .before .put-lines .ensures)
 
 pub put-roles-spec : {M : Type 1} → statement M
