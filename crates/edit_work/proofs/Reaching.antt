@@ -85,10 +85,10 @@ up-column ρ k down l held =
     (λ i t. let a = collect-iff c test i .0 t in upFrom-iff ρ k i .1 (a .0, downFrom-iff ρ i k .0 (rw (held i (a .0)) at (a .1)) .1))
     (λ i t. let a = upFrom-iff ρ k i .0 t in collect-iff c test i .1 (a .0, rw (held i (a .0)) (downFrom-iff ρ i k .1 (l, a .1))))
 
-pub reached : (low down before ws : List ℕ) (c : ℕ) → length ws ≡ workLength → HoldsSets 2 c (λ k. setAt 2 low (2 * k) ∪ single k) down
+pub up-and-down : (low down before ws : List ℕ) (c : ℕ) → length ws ≡ workLength → HoldsSets 2 c (λ k. setAt 2 low (2 * k) ∪ single k) down
     → Placed down c c downStart before ws → (ρ : Roles) → candidateCount ρ ≡ c → Numbered ρ → HoldsSets 2 (candidateCount ρ) (lower ρ) low
     → UpAndDown ρ ws
-reached low down before ws c size filled put ρ e numbered lows =
+up-and-down low down before ws c size filled put ρ e numbered lows =
     let held : HoldsSets 2 (candidateCount ρ) (downFrom ρ) down =
     λ k l. filled k (rw e at l) ∙ ap (λ (y : ℕ). y ∪ single k) (lows k l) ∙ down-lower ρ (numbered .distinct) k l in
     record {

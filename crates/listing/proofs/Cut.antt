@@ -11,7 +11,7 @@ use Rattle.stores.specs.Stores.{putAt}
 use Rattle.text_crew.specs.Reader.{longestText, bufferLength, readRefused, readCrew}
 use Rattle.text_crew.proofs.Answers.{too-long}
 use Rattle.listing.specs.Listing.{listing}
-use Rattle.listing.specs.Stream.{Listed}
+use Rattle.listing.specs.Stream.{ListingPut}
 
 -- two texts that are read alike
 same-read : (a b : List ℕ) → readCrew a (replicate bufferLength 0) ≡ readCrew b (replicate bufferLength 0) → listing a ≡ listing b
@@ -31,7 +31,7 @@ cut-listing space text h =
     (λ (g : length text ≤ space). ap listing (take-all space text g))
 
 -- what is listed of the bytes read is the listing of the text
-pub cut-listed : (space n count : ℕ) (input text before after : List ℕ) → longestText < space → take n input ≡ take space text → (count ≡ length (listing (take n input))) × (after ≡ putAt before 0 (listing (take n input))) → Listed text before after count
+pub cut-listed : (space n count : ℕ) (input text before after : List ℕ) → longestText < space → take n input ≡ take space text → (count ≡ length (listing (take n input))) × (after ≡ putAt before 0 (listing (take n input))) → ListingPut text before after count
 cut-listed space n count input text before after h e l =
     let f : listing (take n input) ≡ listing text = ap listing e ∙ cut-listing space text h in
     record { size = l .0 ∙ ap length f; bytes = l .1 ∙ ap (putAt before 0) f }

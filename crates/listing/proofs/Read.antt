@@ -28,7 +28,7 @@ use Rattle.text_crew.specs.declared.header.Header.the-variants.{Crew, Malformed
 use Rattle.text_crew.specs.Reader.{ReadReply, Read, readResult, readRefused, afterRows, afterHeader, rowsTo, headerAt, readCrew, laid, bufferLength, longestText}
 use Rattle.text_crew.specs.Reader.Read.{rowsRead, badForm, badBit}
 use Rattle.text_crew.proofs.Laid.{length-laid}
-use Rattle.text_crew.proofs.Canonical.{Accepted, accepted, words-hold}
+use Rattle.text_crew.proofs.Canonical.{AcceptedText, accepted, words-hold}
 use Rattle.stores.specs.Stores.{putAt}
 use Rattle.call_mine.specs.declared.MineAnswer.{MineAnswer}
 use Rattle.call_mine.specs.Results.{mineResult}
@@ -123,7 +123,7 @@ module _ (text : List ℕ) (r : CrewRead) (ws : List ℕ) (p : readResult r ws �
       ∙ sym (if-false (eqb (a .code) 0) (listed (a .n) (a .m) (rowsAt (a .n) (a .words) 0)) (refusedText (a .code)) (not-So (eqb (a .code) 0) (λ h. d (code-read ∙ eqb-iff (a .code) 0 .0 h))))
 
   module _ (z : r .code ≡ 0) where
-    taken : Accepted text (replicate 512 0)
+    taken : AcceptedText text (replicate 512 0)
     taken = accepted text (replicate 512 0) (sym code-read ∙ z)
 
     users-read : r .n ≡ taken .users

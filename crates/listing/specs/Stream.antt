@@ -8,6 +8,6 @@ use Rattle.stores.specs.Stores.{putAt}
 use Rattle.listing.specs.Listing.{listing}
 
 -- the listing of the text is what stands first in the output
-pub record Listed (text before after : List ℕ) (count : ℕ) : Type 0 where
+pub record ListingPut (text before after : List ℕ) (count : ℕ) : Type 0 where
   pub size : count ≡ length (listing text)
   pub bytes : after ≡ putAt before 0 (listing text)

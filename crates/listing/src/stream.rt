@@ -4,7 +4,7 @@ ghost use mathlib.Core.List.{List};
 ghost use Prim.Native.Nat.{ℕ, _<_, _≤_};
 ghost use lib.ListN.{length, take};
 ghost use Rattle.text_crew.specs.Reader.{longestText};
-ghost use Rattle.listing.specs.Stream.{Listed};
+ghost use Rattle.listing.specs.Stream.{ListingPut};
 use crate::MOST;
 use crate::list_roles;
 
@@ -15,7 +15,7 @@ const SPACE: usize = 16385;
 fn list_read(input: &[u8], n: usize, out: &mut [u8; MOST]) -> usize
     requires { ⌜ longestText < length (now input) ⌝ }
     requires { ⌜ n ≤ length (now input) ⌝ }
-    ensures { λ r. ⌜ ((text : List ℕ) → take n (now (input .entry)) ≡ take (length (now (input .entry))) text → Listed text (now (out .entry)) (now (out .exit)) r) ⌝ }
+    ensures { λ r. ⌜ ((text : List ℕ) → take n (now (input .entry)) ≡ take (length (now (input .entry))) text → ListingPut text (now (out .entry)) (now (out .exit)) r) ⌝ }
     ensures { λ r. ⌜ r ≤ length (now (out .exit)) ⌝ }
 {
     list_roles(&input[..n], out)

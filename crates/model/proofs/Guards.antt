@@ -27,14 +27,14 @@ sameAnswers [] (b ∷ bs) = false
 sameAnswers (a ∷ rest) [] = false
 sameAnswers (a ∷ rest) (b ∷ bs) = eqb (a .code) (b .code) and eqb (a .changed) (b .changed) and eqb (a .examined) (b .examined) and sameAnswers rest bs
 
-pub holds : Guard → Bool
-holds g =
+pub guardHolds : Guard → Bool
+guardHolds g =
     let start = fresh (length (g .rows)) (g .permissions) (g .rows) in
     sameAnswers (repliesTo start (g .calls)) (g .answers) and eqb (stateAfter start (g .calls) .standing) (g .standing)
 
 pub allHold : List Guard → Bool
 allHold [] = true
-allHold (g ∷ gs) = holds g and allHold gs
+allHold (g ∷ gs) = guardHolds g and allHold gs
 
 abbrev weights : ℕ → ℕ → ℕ → ℕ → Weights
 weights w1 w2 w3 w4 = record { perRole = w1; perMember = w2; perPermission = w3; perLink = w4 }
@@ -81,5 +81,5 @@ guards =
     ∷ []
 
 pub guards-hold : So (allHold guards)
-unfolding everything sameAnswers holds allHold guards
+unfolding everything sameAnswers guardHolds allHold guards
 guards-hold = refl

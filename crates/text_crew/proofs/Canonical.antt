@@ -325,7 +325,7 @@ header-written text n m at f =
     )
 
 -- what an accepted text says
-pub record Accepted (text buffer : List ℕ) : Type 0 where
+pub record AcceptedText (text buffer : List ℕ) : Type 0 where
   pub users : ℕ
   pub permissions : ℕ
   pub rows : List ℕ
@@ -337,13 +337,13 @@ pub record Accepted (text buffer : List ℕ) : Type 0 where
 
 -- a refusal is no acceptance
 refused-not : (text buffer : List ℕ) (k : ℕ) → readRefused (suc k) buffer ≡ readCrew text buffer → readCrew text buffer .code ≡ 0
-    → Accepted text buffer
+    → AcceptedText text buffer
 unfolding readRefused
 refused-not text buffer k e z = let y : suc k ≡ 0 = ap (λ (x : ReadReply). x .code) e ∙ z in absurd (omega arith)
 
 module _ (text buffer : List ℕ) (z : readCrew text buffer .code ≡ 0) where
   all-rows : (n m at : ℕ) → headerAt text ≡ Crew n m at → (rows : List ℕ) (end : ℕ) → rowsTo text m at n ≡ rowsRead rows end
-      → record { code = 0; n = n; m = m; words = laid rows } ≡ readCrew text buffer → end ≡ length text → Accepted text buffer
+      → record { code = 0; n = n; m = m; words = laid rows } ≡ readCrew text buffer → end ≡ length text → AcceptedText text buffer
   unfolding crewText rowsWithin
   all-rows n m at e rows end r a l =
       let f = header-form text n m at e in
@@ -368,7 +368,7 @@ module _ (text buffer : List ℕ) (z : readCrew text buffer .code ≡ 0) where
       }
 
   by-end : (n m at : ℕ) → headerAt text ≡ Crew n m at → (o : Read) → rowsTo text m at n ≡ o → afterRows text buffer n m o ≡ readCrew text buffer
-      → Accepted text buffer
+      → AcceptedText text buffer
   unfolding afterRows
   by-end n m at e (rowsRead rows end) r a =
       equal-or end (length text)
@@ -377,12 +377,12 @@ module _ (text buffer : List ℕ) (z : readCrew text buffer .code ≡ 0) where
   by-end n m at e badForm r a = refused-not text buffer 9 a z
   by-end n m at e badBit r a = refused-not text buffer 2 a z
 
-  by-line : length buffer ≡ bufferLength → length text ≤ longestText → (h : Header) → headerAt text ≡ h → Accepted text buffer
+  by-line : length buffer ≡ bufferLength → length text ≤ longestText → (h : Header) → headerAt text ≡ h → AcceptedText text buffer
   by-line b l (Crew n m at) e = by-end n m at e (rowsTo text m at n) refl (by-crew text buffer b l e)
   by-line b l Malformed e = refused-not text buffer 9 (by-malformed text buffer b l e) z
   by-line b l Beyond e = refused-not text buffer 1 (by-beyond text buffer b l e) z
 
-  pub accepted : Accepted text buffer
+  pub accepted : AcceptedText text buffer
   accepted =
       equal-or (length buffer) bufferLength
       (λ b.

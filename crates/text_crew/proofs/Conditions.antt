@@ -36,7 +36,7 @@ use Rattle.text_crew.proofs.Lines.{limits-broken}
 use Rattle.text_crew.proofs.Forms.{HeaderForm, header-form, header-beyond, row-has}
 use Rattle.text_crew.proofs.Laid.{length-laid, getD-laid}
 use Rattle.text_crew.proofs.Answers.{Filling, fill-broken, fill-bit, fill-all, after-more, after-form, after-bit, wrong-buffer, too-long, by-crew, by-malformed, by-beyond}
-use Rattle.text_crew.proofs.Canonical.{header-reads, header-read, header-written, row-read, row-written, rows-read, rows-written, read-back, words-hold, Accepted, accepted}
+use Rattle.text_crew.proofs.Canonical.{header-reads, header-read, header-written, row-read, row-written, rows-read, rows-written, read-back, words-hold, AcceptedText, accepted}
 
 -- ---- what a text begins with, and goes on with
 
@@ -484,7 +484,7 @@ module _ (text buffer : List ℕ) where
       either i 512 (λ b. rw (getD-laid rows i b) (word-lt (getD rows (i / 4) 0) (i % 4)))
       (λ b. rw (List·getD-eq-default (laid rows) 0 {n = i} (omega arith)) (omega arith))
 
-  text-of : (a : Accepted text buffer) → TextOf text (a .users) (a .permissions) (a .rows)
+  text-of : (a : AcceptedText text buffer) → TextOf text (a .users) (a .permissions) (a .rows)
   text-of a =
       let c : length (a .rows) ≡ a .users = a .count in
       let list : CrewRows (a .users) (a .permissions) (a .users) (a .rows) =
@@ -496,7 +496,7 @@ module _ (text buffer : List ℕ) where
       } in
       record { list = list; lines = a .canonical }
 
-  read-from : Accepted text buffer → ReadFrom text (readCrew text buffer)
+  read-from : AcceptedText text buffer → ReadFrom text (readCrew text buffer)
   read-from a =
       let e : readCrew text buffer ≡ record { code = 0; n = a .users; m = a .permissions; words = laid (a .rows) } = a .answer in
       rw e

@@ -10,6 +10,7 @@ use Rattle.sets.specs.Truth.{_and_, isnt, if_then_else_}
 use Rattle.model.specs.Lists.{tabulate}
 use Rattle.model.specs.State.{withinLimits}
 use Rattle.model.specs.Record.{regionWord}
+use Rattle.model.specs.Refusals.{outsideLimits, wrongCrewWords, wrongText}
 use Rattle.text.specs.declared.decimal.Decimal.{Decimal}
 use Rattle.text.specs.declared.decimal.Decimal.the-variants.{Number, Nothing}
 use Rattle.text.specs.Fixed.{holds, comma, lineEnd}
@@ -106,20 +107,20 @@ laid rows = tabulate bufferLength (regionWord 4 (λ u. getD rows u 0))
 -- after the rows, no more bytes
 unfoldable pub afterRows : List ℕ → List ℕ → ℕ → ℕ → Read → ReadReply
 afterRows text buffer n m (rowsRead rows at) =
-    if eqb at (length text) then record { code = 0; n = n; m = m; words = laid rows } else readRefused 10 buffer
-afterRows text buffer n m badForm = readRefused 10 buffer
-afterRows text buffer n m badBit = readRefused 3 buffer
+    if eqb at (length text) then record { code = 0; n = n; m = m; words = laid rows } else readRefused wrongText buffer
+afterRows text buffer n m badForm = readRefused wrongText buffer
+afterRows text buffer n m badBit = readRefused wrongCrewWords buffer
 
 unfoldable pub afterHeader : List ℕ → List ℕ → Header → ReadReply
 afterHeader text buffer (Crew n m at) = afterRows text buffer n m (rowsTo text m at n)
-afterHeader text buffer Malformed = readRefused 10 buffer
-afterHeader text buffer Beyond = readRefused 2 buffer
+afterHeader text buffer Malformed = readRefused wrongText buffer
+afterHeader text buffer Beyond = readRefused outsideLimits buffer
 
 -- the reader, on a text and a lent buffer
 unfoldable pub readCrew : List ℕ → List ℕ → ReadReply
 readCrew text buffer =
-    if isnt (eqb (length buffer) bufferLength) then readRefused 3 buffer
-    else if isnt (leb (length text) longestText) then readRefused 10 buffer
+    if isnt (eqb (length buffer) bufferLength) then readRefused wrongCrewWords buffer
+    else if isnt (leb (length text) longestText) then readRefused wrongText buffer
     else afterHeader text buffer (headerAt text)
 
 -- ---- what the code gives

@@ -2,7 +2,7 @@
 -- Assumes nothing.
 use borrow.Author.Needs.{needs}
 use native.Mathlib.Omega.{arith}
-use Rattle.edit_work.proofs.Reaching.{reached}
+use Rattle.edit_work.proofs.Reaching.{up-and-down}
 use Rattle.edit_work.proofs.fill.fill_reach.Statement.{statement}
 use Rattle.edit_work.proofs.fill.fill_reach.Tie as tie
 
@@ -34,7 +34,7 @@ returns : tie.Need-returns
 returns c =
     let put = c .before .before in
     let down = put .before .before .before .before in
-    (put .place .ensures .kept, λ ρ e numbered ix. reached _ _ _ _ _ (omega arith) (down .fill-down .ensures .0) (put .place .ensures) ρ e numbered (ix .lower-roles))
+    (put .place .ensures .kept, λ ρ e numbered ix. up-and-down _ _ _ _ _ (omega arith) (down .fill-down .ensures .0) (put .place .ensures) ρ e numbered (ix .lower-roles))
 
 pub fill-reach-spec : {M : Type 1} → statement M
 fill-reach-spec =
