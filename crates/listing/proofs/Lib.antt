@@ -1,4 +1,3 @@
-pub mod Puts
 pub mod Rendered
 pub mod Read
 pub mod Sample

@@ -32,7 +32,8 @@ use Rattle.text_crew.proofs.Canonical.{AcceptedText, accepted, words-hold}
 use Rattle.stores.specs.Stores.{putAt}
 use Rattle.call_mine.specs.declared.MineAnswer.{MineAnswer}
 use Rattle.call_mine.specs.Results.{mineResult}
-use Rattle.listing.specs.Listing.{Printable, settled, refusedText, rolesText, listed, listing}
+use Rattle.listing.specs.Listing.{Printable, settled, rolesText, listed, listing}
+use Rattle.text_roles.specs.Lines.{refusedText}
 
 -- ---- mining a crew list that was read
 

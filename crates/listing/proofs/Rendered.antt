@@ -36,9 +36,10 @@ use Rattle.call_quality.specs.declared.QualityAnswer.{QualityAnswer}
 use Rattle.call_eliminate.specs.Results.{eliminateResult}
 use Rattle.call_review.specs.Results.{reviewResult}
 use Rattle.call_quality.specs.Results.{qualityResult}
-use Rattle.listing.specs.Listing.{plainWeights, plainTolerance, settled, line, linesTo, headLine, roleLine, rolesText}
-use Rattle.listing.specs.Words.{Limited, wordsLine, wordsLines}
-use Rattle.listing.proofs.Puts.{Put, put-then, put-same, lines-most}
+use Rattle.listing.specs.Listing.{plainWeights, plainTolerance, settled, roleLine, rolesText}
+use Rattle.text_roles.specs.Lines.{line, linesTo, headLine}
+use Rattle.text_roles.specs.Words.{Limited, wordsLine, wordsLines}
+use Rattle.text_roles.proofs.Puts.{Put, put-then, put-same, lines-most}
 
 -- ---- elimination and review
 

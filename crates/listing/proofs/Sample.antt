@@ -10,7 +10,8 @@ use Rattle.text.specs.Decimal.{decimalDigit, decimalAt, decimalOf, decimal}
 use Rattle.text.specs.Hexadecimal.{hexadecimalAt, hexadecimalValue, hexadecimal}
 use Rattle.text_crew.specs.Format.{digitsFor}
 use Rattle.text_crew.specs.Reader.{limited, headerEnd, headerRest, headerAt, rowRest, rowDigitsAt, withRow, nextRow, rowsTo, readRefused, laid, afterRows, afterHeader, readCrew}
-use Rattle.listing.specs.Listing.{plainWeights, plainTolerance, settled, field, line, linesTo, headLine, refusedText, roleLine, rolesText, listed, listing}
+use Rattle.listing.specs.Listing.{plainWeights, plainTolerance, settled, roleLine, rolesText, listed, listing}
+use Rattle.text_roles.specs.Lines.{field, line, linesTo, headLine, refusedText}
 
 -- opens all that a listing computes by
 unfoldable shown : ℕ

@@ -3,12 +3,11 @@
 use mathlib.Core.Path.{_≡_}
 use mathlib.Core.Logic.{_⊎_}
 use mathlib.Core.List.{List, [], _∷_, _++_}
-use Prim.Native.Nat.{ℕ, zero, suc}
+use Prim.Native.Nat.{ℕ}
 use lib.Count.{ones}
 use lib.Dec.{eqb, leb}
 use lib.ListN.{length, replicate}
 use Rattle.sets.specs.Truth.{if_then_else_}
-use Rattle.sets.specs.Sets.{has}
 use Rattle.model.specs.Lists.{rowsAt}
 use Rattle.model.specs.Candidates.{candidates}
 use Rattle.model.specs.Hierarchy.{candidateCount, permissionSet, directPermissions, directMembers, immediateJuniors}
@@ -16,11 +15,8 @@ use Rattle.model.specs.Quality.{Weights, quality, Tolerance}
 use Rattle.model.specs.State.{State, rolesOf, fresh}
 use Rattle.model.specs.Machine.{stateAfter}
 use Rattle.model.specs.Machine.Call.{eliminate, review}
-use Rattle.text.specs.Fixed.{comma, lineEnd}
-use Rattle.text.specs.Decimal.{decimal}
-use Rattle.text.specs.Hexadecimal.{hexadecimal}
-use Rattle.text_crew.specs.Format.{digitsFor}
 use Rattle.text_crew.specs.Reader.{bufferLength, readCrew}
+use Rattle.text_roles.specs.Lines.{line, linesTo, headLine, refusedText}
 
 -- "weights 1, 1, 1, 1 and tolerance 1/1"
 unfoldable pub plainWeights : Weights
@@ -32,38 +28,6 @@ plainTolerance = record { numerator = 1; denominator = 1 }
 -- the state that elimination and then review leave
 unfoldable pub settled : State → State
 settled st = stateAfter st (eliminate plainWeights plainTolerance ∷ review plainWeights ∷ [])
-
--- ---- lines
-
--- "roles,"
-abbrev pub rolesWord : List ℕ
-rolesWord = 114 ∷ 111 ∷ 108 ∷ 101 ∷ 115 ∷ 44 ∷ []
-
--- "refused,"
-abbrev pub refusedWord : List ℕ
-refusedWord = 114 ∷ 101 ∷ 102 ∷ 117 ∷ 115 ∷ 101 ∷ 100 ∷ 44 ∷ []
-
--- a comma, and a set of items below `size` with as many hexadecimal digits as that needs "at four bits each"
-unfoldable pub field : ℕ → ℕ → List ℕ
-field size s = comma ++ hexadecimal (digitsFor size) s
-
--- "number, S(k), direct permissions, direct members, immediate juniors", with the digits that "m, m, n and c need"
-unfoldable pub line : ℕ → ℕ → ℕ → ℕ → ℕ → ℕ → ℕ → ℕ → List ℕ
-line n m c k set permissions members juniors =
-    decimal k ++ (field m set ++ (field m permissions ++ (field n members ++ (field c juniors ++ lineEnd))))
-
--- the lines of those roles below k that are in R
-unfoldable pub linesTo : ℕ → (ℕ → List ℕ) → ℕ → List ℕ
-linesTo R lineOf zero = []
-linesTo R lineOf (suc k) = linesTo R lineOf k ++ (if has R k then lineOf k else [])
-
--- "`roles,` with the standing count and q"
-unfoldable pub headLine : ℕ → ℕ → List ℕ
-headLine count q = rolesWord ++ (decimal count ++ (comma ++ (decimal q ++ lineEnd)))
-
--- "A refusal prints `refused,` and its number."
-unfoldable pub refusedText : ℕ → List ℕ
-refusedText k = refusedWord ++ (decimal k ++ lineEnd)
 
 -- the numbers that are ever printed so: the reader's, and mining's 4
 abbrev pub Printable : ℕ → Type 0

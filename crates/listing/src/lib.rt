@@ -8,13 +8,11 @@ ghost use Rattle.model.specs.State.{withinLimits, rowsWithin};
 ghost use Rattle.model.specs.Record.{built, stateOf, sound};
 ghost use Rattle.stores.specs.Stores.{putAt};
 ghost use Rattle.listing.specs.Listing.{listed, listing, settled};
-ghost use Rattle.listing.specs.Words.{mostBytes};
+ghost use Rattle.text_roles.specs.Words.{mostBytes};
 
-mod lines;
 mod roles;
 mod stream;
 
-use crate::roles::put_refused;
 use crate::roles::put_roles;
 use call_eliminate::panel_eliminate;
 use call_mine::panel_mine;
@@ -22,6 +20,7 @@ use call_review::panel_review;
 pub use stream::list_stream;
 use tables::LENGTH;
 use text_crew::read_crew;
+use text_roles::put_refused;
 
 // More than any text's roles need.
 pub const MOST: usize = 32768;

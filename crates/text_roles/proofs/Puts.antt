@@ -20,8 +20,8 @@ use Rattle.stores.proofs.Stores.{putAt-append}
 use Rattle.text.proofs.Decimals.{length-decimal}
 use Rattle.text.proofs.Hexadecimals.{length-hexadecimal}
 use Rattle.text_crew.specs.Format.{digitsFor}
-use Rattle.listing.specs.Listing.{field, line, linesTo, headLine, refusedText, rolesWord, refusedWord}
-use Rattle.listing.specs.Words.{Limited, wordsLine, standingLine, wordsLines}
+use Rattle.text_roles.specs.Lines.{field, line, linesTo, headLine, refusedText, rolesWord, refusedWord}
+use Rattle.text_roles.specs.Words.{Limited, wordsLine, standingLine, wordsLines}
 
 -- the bytes xs, written from place `at` on, and the place after them
 abbrev pub Put : List ℕ → ℕ → List ℕ → List ℕ → ℕ → Type 0

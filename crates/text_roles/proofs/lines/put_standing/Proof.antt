@@ -4,9 +4,9 @@ use borrow.Author.Needs.{needs}
 use Rattle.text_crew.proofs.Lines.{said-yes, said-no}
 use mathlib.Core.Path.{_∙_, ap}
 use Rattle.sets.specs.Sets.{has}
-use Rattle.listing.proofs.Puts.{standing-put, absent-put}
-use Rattle.listing.proofs.lines.put_standing.Statement.{statement}
-use Rattle.listing.proofs.lines.put_standing.Tie as tie
+use Rattle.text_roles.proofs.Puts.{standing-put, absent-put}
+use Rattle.text_roles.proofs.lines.put_standing.Statement.{statement}
+use Rattle.text_roles.proofs.lines.put_standing.Tie as tie
 
 load128-requires : tie.Need-load128-requires
 load128-requires c κs = search needs

@@ -2,9 +2,9 @@
 -- Assumes nothing.
 use borrow.Author.Needs.{needs}
 use native.Mathlib.Omega.{arith}
-use Rattle.listing.proofs.Puts.{refused-put}
-use Rattle.listing.proofs.roles.put_refused.Statement.{statement}
-use Rattle.listing.proofs.roles.put_refused.Tie as tie
+use Rattle.text_roles.proofs.Puts.{refused-put}
+use Rattle.text_roles.proofs.head.put_refused.Statement.{statement}
+use Rattle.text_roles.proofs.head.put_refused.Tie as tie
 
 slice-aggregate-put-bytes : tie.Need-slice-aggregate-put-bytes
 slice-aggregate-put-bytes c = search needs

@@ -1,9 +1,9 @@
 -- The definition, as the code computes it.
 -- Assumes nothing.
 use borrow.Author.Needs.{needs}
-use Rattle.listing.proofs.Puts.{digits-are}
-use Rattle.listing.proofs.lines.digits.Statement.{statement}
-use Rattle.listing.proofs.lines.digits.Tie as tie
+use Rattle.text_roles.proofs.Puts.{digits-are}
+use Rattle.text_roles.proofs.lines.digits.Statement.{statement}
+use Rattle.text_roles.proofs.lines.digits.Tie as tie
 
 add-result : tie.Need-add-result
 add-result c = search needs

@@ -2,9 +2,9 @@
 -- Assumes nothing.
 use borrow.Author.Needs.{needs}
 use native.Mathlib.Omega.{arith}
-use Rattle.listing.proofs.Puts.{sized-put, line-put}
-use Rattle.listing.proofs.lines.put_line.Statement.{statement}
-use Rattle.listing.proofs.lines.put_line.Tie as tie
+use Rattle.text_roles.proofs.Puts.{sized-put, line-put}
+use Rattle.text_roles.proofs.lines.put_line.Statement.{statement}
+use Rattle.text_roles.proofs.lines.put_line.Tie as tie
 
 put-number-requires : tie.Need-put-number-requires
 put-number-requires c κs = omega arith

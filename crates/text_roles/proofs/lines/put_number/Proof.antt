@@ -3,8 +3,8 @@
 use borrow.Author.Needs.{needs}
 use native.Mathlib.Omega.{arith}
 use Rattle.text.proofs.Decimals.{length-decimal}
-use Rattle.listing.proofs.lines.put_number.Statement.{statement}
-use Rattle.listing.proofs.lines.put_number.Tie as tie
+use Rattle.text_roles.proofs.lines.put_number.Statement.{statement}
+use Rattle.text_roles.proofs.lines.put_number.Tie as tie
 
 put-decimal-requires : tie.Need-put-decimal-requires
 put-decimal-requires c κs = omega (arith, length-decimal (c .before .before .args .v))

@@ -2,9 +2,9 @@
 -- Assumes nothing.
 use borrow.Author.Needs.{needs}
 use native.Mathlib.Omega.{arith}
-use Rattle.listing.proofs.Puts.{head-put}
-use Rattle.listing.proofs.roles.put_head.Statement.{statement}
-use Rattle.listing.proofs.roles.put_head.Tie as tie
+use Rattle.text_roles.proofs.Puts.{head-put}
+use Rattle.text_roles.proofs.head.put_head.Statement.{statement}
+use Rattle.text_roles.proofs.head.put_head.Tie as tie
 
 slice-aggregate-put-bytes : tie.Need-slice-aggregate-put-bytes
 slice-aggregate-put-bytes c = search needs

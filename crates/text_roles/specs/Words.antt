@@ -8,7 +8,7 @@ use Rattle.sets.specs.Truth.{if_then_else_}
 use Rattle.sets.specs.Sets.{has}
 use Rattle.model.specs.Lists.{setAt}
 use Rattle.model.specs.Record.{recordLength, setsStart, permissionsStart, membersStart, juniorsStart}
-use Rattle.listing.specs.Listing.{line, linesTo}
+use Rattle.text_roles.specs.Lines.{line, linesTo}
 
 -- no text has a longer listing
 abbrev pub mostBytes : ℕ

@@ -5,10 +5,10 @@ use mathlib.Core.Path.{_≡_, refl}
 use Prim.Native.Nat.{_-_, _≤_}
 use native.Mathlib.Omega.{arith}
 use lib.ListN.{length, getD}
-use Rattle.listing.specs.Words.{wordsLines}
-use Rattle.listing.proofs.Puts.{Put, lines-none, lines-more, lines-most, put-upto}
-use Rattle.listing.proofs.lines.put_lines.Statement.{statement}
-use Rattle.listing.proofs.lines.put_lines.Tie as tie
+use Rattle.text_roles.specs.Words.{wordsLines}
+use Rattle.text_roles.proofs.Puts.{Put, lines-none, lines-more, lines-most, put-upto}
+use Rattle.text_roles.proofs.lines.put_lines.Statement.{statement}
+use Rattle.text_roles.proofs.lines.put_lines.Tie as tie
 
 abbrev Inv-loop : tie.InvT-loop
 Inv-loop rec out₀ start c at₀ k₀ out at k = (k ≤ c) × (length out ≡ length out₀) × Put out₀ start (wordsLines rec k) out at
