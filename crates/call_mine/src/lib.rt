@@ -3,13 +3,13 @@ ghost use Rattle.model.specs.Refusals.{_orElse_, lengthRefusal, limitsRefusal, 
 ghost use Rattle.model.specs.Calls.{mine};
 ghost use Rattle.call_mine.specs.Results.{mineResult};
 use calls::length_refusal;
+use limits::crew_refusal;
+use limits::limits_refusal;
 use mining::Mined;
 use records::mine_record;
 use records::write_fresh;
 use refusals::REFUSED_CANDIDATES;
 use tables::LENGTH;
-use tables::crew_refusal;
-use tables::limits_refusal;
 
 // The refusal's number, or 0, and beside 0 the number of candidates.
 #[repr(C)]

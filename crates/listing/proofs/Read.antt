@@ -23,9 +23,10 @@ use Rattle.model.proofs.Steps.{Fit, after-fit, mining-fit}
 use Rattle.model.proofs.Calls.{mine-code, mine-accepted}
 use Rattle.model.proofs.Claim.{fit-sound}
 use Rattle.text_crew.specs.declared.CrewRead.{CrewRead}
-use Rattle.text_crew.specs.declared.header.Header.{Header}
-use Rattle.text_crew.specs.declared.header.Header.the-variants.{Crew, Malformed, Beyond}
-use Rattle.text_crew.specs.Reader.{ReadReply, Read, readResult, readRefused, afterRows, afterHeader, rowsTo, headerAt, readCrew, laid, bufferLength, longestText}
+use Rattle.text_lines.specs.declared.header.Header.{Header}
+use Rattle.text_lines.specs.declared.header.Header.the-variants.{Crew, Malformed, Beyond}
+use Rattle.text_crew.specs.Reader.{ReadReply, Read, readResult, readRefused, afterRows, afterHeader, rowsTo, readCrew, laid, bufferLength, longestText}
+use Rattle.text_lines.specs.Lines.{headerAt}
 use Rattle.text_crew.specs.Reader.Read.{rowsRead, badForm, badBit}
 use Rattle.text_crew.proofs.Laid.{length-laid}
 use Rattle.text_crew.proofs.Canonical.{AcceptedText, accepted, words-hold}

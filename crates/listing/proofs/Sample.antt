@@ -7,9 +7,10 @@ use Rattle.model.proofs.Everything.{everything}
 use Rattle.text.specs.Digits.{digitByte, digitOf, digitAt}
 use Rattle.text.specs.Fixed.{holds}
 use Rattle.text.specs.Decimal.{decimalDigit, decimalAt, decimalOf, decimal}
-use Rattle.text.specs.Hexadecimal.{hexadecimalAt, hexadecimalValue, hexadecimal}
-use Rattle.text_crew.specs.Format.{digitsFor}
-use Rattle.text_crew.specs.Reader.{limited, headerEnd, headerRest, headerAt, rowRest, rowDigitsAt, withRow, nextRow, rowsTo, readRefused, laid, afterRows, afterHeader, readCrew}
+use Rattle.text_sets.specs.Hexadecimal.{hexadecimalAt, hexadecimalValue, hexadecimal}
+use Rattle.text_lines.specs.Format.{digitsFor}
+use Rattle.text_crew.specs.Reader.{withRow, nextRow, rowsTo, readRefused, laid, afterRows, afterHeader, readCrew}
+use Rattle.text_lines.specs.Lines.{limited, headerEnd, headerRest, headerAt, rowRest, rowDigitsAt}
 use Rattle.listing.specs.Listing.{plainWeights, plainTolerance, settled, roleLine, rolesText, listed, listing}
 use Rattle.text_roles.specs.Lines.{field, line, linesTo, headLine, refusedText}
 

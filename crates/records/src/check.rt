@@ -18,15 +18,15 @@ use crate::begin::complete_record;
 use crate::begin::mine_record;
 use crate::cover::all_covered;
 use indexes::INDEX_LENGTH;
+use limits::limits_kept;
+use limits::rows_within;
 use mining::Mined;
 use sets_128::Set128;
 use tables::CREW;
 use tables::LENGTH;
 use tables::STANDING;
 use tables::equal_at;
-use tables::limits_kept;
 use tables::load128;
-use tables::rows_within;
 
 // Whether the header and the crew rows keep the limits, which are judged before any loop runs by them.
 fn within(rec: &[u64]) -> bool

@@ -1,4 +1,3 @@
-pub mod Within
 pub mod Stores
 pub mod Tables
 pub mod Parts

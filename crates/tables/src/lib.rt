@@ -1,8 +1,6 @@
-// A slice of words as a table of sets: a set at a place read and written, a region copied and compared, a growing table searched; the layout of a record, and
-// the limits of a crew list.
+// A slice of words as a table of sets: a set at a place read and written, a region copied and compared, a growing table searched; the layout of a record.
 mod growing;
 mod layout;
-mod limits;
 
 ghost use mathlib.Core.Path.{_≡_};
 ghost use Prim.Native.Nat.{_+_, _≤_};
@@ -24,10 +22,6 @@ pub use layout::MEMBERS;
 pub use layout::PERMISSIONS;
 pub use layout::SETS;
 pub use layout::STANDING;
-pub use limits::crew_refusal;
-pub use limits::limits_kept;
-pub use limits::limits_refusal;
-pub use limits::rows_within;
 use sets_128::Set128;
 use sets_256::Set256;
 

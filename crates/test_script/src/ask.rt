@@ -1,11 +1,11 @@
 // What alters no record: the calls that read one, the reader of a crew text, and titles.
-use crate::input::last_numbers;
 use crate::lent::MOST_WORDS;
 use crate::lent::lent;
 use libc::STDIN_FILENO;
 use panel::panel_may;
 use panel::panel_quality;
 use panel::panel_read_crew;
+use test_input::last_numbers;
 use test_support::case;
 use test_support::text;
 

@@ -1,6 +1,4 @@
 // What alters the record: the calls that mine and edit, and a word put into it.
-use crate::input::last_numbers;
-use crate::input::numbers;
 use crate::lent::MOST_WORDS;
 use crate::lent::lent;
 use crate::list::list;
@@ -9,6 +7,8 @@ use panel::panel_mine;
 use panel::panel_restore;
 use panel::panel_review;
 use panel::panel_strike;
+use test_input::last_numbers;
+use test_input::numbers;
 use test_support::case;
 
 fn mine_words(n: u64, m: u64, crew: &mut [u64], rec: &mut [u64]) -> bool {

@@ -18,15 +18,14 @@
 // Where a line is none of these the program says so and ends.
 mod ask;
 mod edit;
-mod input;
 mod lent;
 mod list;
 
 use crate::ask::asked;
 use crate::edit::edited;
-use crate::input::last_numbers;
 use libc::STDIN_FILENO;
 use tables::LENGTH;
+use test_input::last_numbers;
 use test_support::text;
 
 const MOST_COMMANDS: u64 = 1_000_000;

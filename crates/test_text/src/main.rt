@@ -5,8 +5,8 @@ ghost use lib.ListN.{length};
 use libc::STDIN_FILENO;
 use test_support::case;
 use text::Field;
-use text::hexadecimal_set;
-use text::read_hexadecimal;
+use text_sets::hexadecimal_set;
+use text_sets::read_hexadecimal;
 
 const MOST_WORDS: usize = 600;
 

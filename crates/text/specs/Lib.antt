@@ -1,4 +1,3 @@
 pub mod Digits
 pub mod Fixed
 pub mod Decimal
-pub mod Hexadecimal

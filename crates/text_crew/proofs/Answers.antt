@@ -17,18 +17,19 @@ use Rattle.sets.proofs.Truth.{same-test, ltb-iff, if-true, if-false, if-passes,
 use Rattle.sets.proofs.Items.{item-below}
 use Rattle.sets.proofs.Order.{subset-iff, subset-≤, collect-iff}
 use Rattle.sets.proofs.Below.{collect-below}
-use Rattle.text.specs.Hexadecimal.{hexadecimalValue}
+use Rattle.text_sets.specs.Hexadecimal.{hexadecimalValue}
 use Rattle.stores.specs.Stores.{putAt}
 use Rattle.tables.specs.Stores.{wordsOf}
-use Rattle.text_crew.specs.Format.{digitsFor}
+use Rattle.text_lines.specs.Format.{digitsFor}
 use Rattle.text_crew.specs.declared.CrewRead.{CrewRead}
-use Rattle.text_crew.specs.declared.header.Header.{Header}
-use Rattle.text_crew.specs.declared.header.Header.the-variants.{Crew, Malformed, Beyond}
-use Rattle.text_crew.specs.declared.row.Row.{Row}
-use Rattle.text_crew.specs.declared.row.Row.the-variants.{Digits, Broken}
+use Rattle.text_lines.specs.declared.header.Header.{Header}
+use Rattle.text_lines.specs.declared.header.Header.the-variants.{Crew, Malformed, Beyond}
+use Rattle.text_lines.specs.declared.row.Row.{Row}
+use Rattle.text_lines.specs.declared.row.Row.the-variants.{Digits, Broken}
 use Rattle.text_crew.specs.declared.rows.RowsEnd.the-variants.{End, BadForm, BadBit}
-use Rattle.text_crew.specs.Reader.{longestText, bufferLength, Read, rowsRead, badForm, badBit, rowDigitsAt, withRow, nextRow, rowsTo, laid, rowsEnd, RowsLaid, ReadReply, readRefused, readResult, headerAt, afterRows, afterHeader, readCrew}
-use Rattle.text_crew.proofs.Lines.{said-no, said-yes}
+use Rattle.text_crew.specs.Reader.{longestText, bufferLength, Read, rowsRead, badForm, badBit, withRow, nextRow, rowsTo, laid, rowsEnd, RowsLaid, ReadReply, readRefused, readResult, afterRows, afterHeader, readCrew}
+use Rattle.text_lines.specs.Lines.{rowDigitsAt, headerAt}
+use Rattle.text_lines.proofs.Lines.{said-no, said-yes}
 use Rattle.text_crew.proofs.Laid.{laid-more}
 
 -- ---- no bit at m or above

@@ -18,19 +18,21 @@ use Rattle.model.proofs.Lists.{setAt-words, length-rowsAt, getD-rowsAt}
 use Rattle.text.specs.declared.decimal.Decimal.the-variants.{Number}
 use Rattle.text.specs.Fixed.{holds, comma, lineEnd}
 use Rattle.text.specs.Decimal.{decimalAt, decimal}
-use Rattle.text.specs.Hexadecimal.{hexadecimalValue, hexadecimal}
+use Rattle.text_sets.specs.Hexadecimal.{hexadecimalValue, hexadecimal}
 use Rattle.text.proofs.Bytes.{holds-iff, holds-append, holds-whole, holds-self, holds-end}
-use Rattle.text.proofs.Hexadecimals.{sixteen, length-hexadecimal}
-use Rattle.text.proofs.Written.{comma-parts, line-parts, decimal-length, decimal-reads, decimal-writes, hex-there, hex-reads, hex-writes}
-use Rattle.text_crew.specs.Format.{crewWord, digitsFor, headerLine, rowLine, rowLines, crewText}
-use Rattle.text_crew.specs.declared.header.Header.{Header}
-use Rattle.text_crew.specs.declared.header.Header.the-variants.{Crew, Malformed, Beyond}
-use Rattle.text_crew.specs.declared.row.Row.{Row}
-use Rattle.text_crew.specs.declared.row.Row.the-variants.{Digits, Broken}
-use Rattle.text_crew.specs.Reader.{longestText, bufferLength, limited, headerAt, rowDigitsAt, Read, rowsRead, badForm, badBit, withRow, nextRow, rowsTo, laid, ReadReply, readRefused, afterRows, readCrew}
+use Rattle.text_sets.proofs.Hexadecimals.{sixteen, length-hexadecimal}
+use Rattle.text.proofs.Written.{comma-parts, line-parts, decimal-length, decimal-reads, decimal-writes}
+use Rattle.text_sets.proofs.Written.{hex-there, hex-reads, hex-writes}
+use Rattle.text_lines.specs.Format.{crewWord, digitsFor, headerLine, rowLine, rowLines, crewText}
+use Rattle.text_lines.specs.declared.header.Header.{Header}
+use Rattle.text_lines.specs.declared.header.Header.the-variants.{Crew, Malformed, Beyond}
+use Rattle.text_lines.specs.declared.row.Row.{Row}
+use Rattle.text_lines.specs.declared.row.Row.the-variants.{Digits, Broken}
+use Rattle.text_crew.specs.Reader.{longestText, bufferLength, Read, rowsRead, badForm, badBit, withRow, nextRow, rowsTo, laid, ReadReply, readRefused, afterRows, readCrew}
+use Rattle.text_lines.specs.Lines.{limited, headerAt, rowDigitsAt}
 use Rattle.model.proofs.Record.{withinLimits-iff}
-use Rattle.text_crew.proofs.Lines.{limits-kept, header-whole, row-whole}
-use Rattle.text_crew.proofs.Forms.{HeaderForm, header-form, row-form}
+use Rattle.text_lines.proofs.Lines.{limits-kept, header-whole, row-whole}
+use Rattle.text_lines.proofs.Forms.{HeaderForm, header-form, row-form}
 use Rattle.text_crew.proofs.Laid.{getD-laid}
 use Rattle.text_crew.proofs.Answers.{wrong-buffer, too-long, by-crew, by-malformed, by-beyond}
 

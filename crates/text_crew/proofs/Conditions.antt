@@ -21,19 +21,20 @@ use Rattle.model.specs.State.{withinLimits}
 use Rattle.model.proofs.Record.{withinLimits-iff, rowsWithin-iff}
 use Rattle.text.specs.Fixed.{holds}
 use Rattle.text.specs.Decimal.{decimal}
-use Rattle.text.specs.Hexadecimal.{hexadecimalValue}
+use Rattle.text_sets.specs.Hexadecimal.{hexadecimalValue}
 use Rattle.text.proofs.Bytes.{holds-iff, holds-end, holds-append, holds-whole, holds-self}
-use Rattle.text.proofs.Hexadecimals.{sixteen, hex-digit, hex-lt}
+use Rattle.text_sets.proofs.Hexadecimals.{sixteen, hex-digit, hex-lt}
 use Rattle.text.proofs.Written.{decimal-writes}
-use Rattle.text_crew.specs.Format.{digitsFor, headerLine, rowLine, rowLines}
-use Rattle.text_crew.specs.declared.header.Header.{Header}
-use Rattle.text_crew.specs.declared.header.Header.the-variants.{Crew, Malformed, Beyond}
-use Rattle.text_crew.specs.declared.row.Row.{Row}
-use Rattle.text_crew.specs.declared.row.Row.the-variants.{Digits, Broken}
-use Rattle.text_crew.specs.Reader.{longestText, bufferLength, limited, headerAt, rowDigitsAt, Read, rowsRead, badForm, badBit, withRow, nextRow, rowsTo, laid, ReadReply, readRefused, afterRows, readCrew}
+use Rattle.text_lines.specs.Format.{digitsFor, headerLine, rowLine, rowLines}
+use Rattle.text_lines.specs.declared.header.Header.{Header}
+use Rattle.text_lines.specs.declared.header.Header.the-variants.{Crew, Malformed, Beyond}
+use Rattle.text_lines.specs.declared.row.Row.{Row}
+use Rattle.text_lines.specs.declared.row.Row.the-variants.{Digits, Broken}
+use Rattle.text_crew.specs.Reader.{longestText, bufferLength, Read, rowsRead, badForm, badBit, withRow, nextRow, rowsTo, laid, ReadReply, readRefused, afterRows, readCrew}
+use Rattle.text_lines.specs.Lines.{limited, headerAt, rowDigitsAt}
 use Rattle.text_crew.specs.Conditions.{Begins, HeaderStands, RowStands, CrewRows, InOrder, HeaderBeyond, RowBeyond, HeaderBroken, RowBroken, MoreBytes, TextOf, LinesJudged, When0, When2, When3, When10, ReadFrom, ReadConditions}
-use Rattle.text_crew.proofs.Lines.{limits-broken}
-use Rattle.text_crew.proofs.Forms.{HeaderForm, header-form, header-beyond, row-has}
+use Rattle.text_lines.proofs.Lines.{limits-broken}
+use Rattle.text_lines.proofs.Forms.{HeaderForm, header-form, header-beyond, row-has}
 use Rattle.text_crew.proofs.Laid.{length-laid, getD-laid}
 use Rattle.text_crew.proofs.Answers.{Filling, fill-broken, fill-bit, fill-all, after-more, after-form, after-bit, wrong-buffer, too-long, by-crew, by-malformed, by-beyond}
 use Rattle.text_crew.proofs.Canonical.{header-reads, header-read, header-written, row-read, row-written, rows-read, rows-written, read-back, words-hold, AcceptedText, accepted}

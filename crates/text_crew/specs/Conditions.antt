@@ -9,7 +9,7 @@ use Prim.Native.Nat.{ℕ, _*_, _^_, _≤_, _<_}
 use lib.ListN.{length, getD}
 use Rattle.sets.specs.Sets.{has}
 use Rattle.model.specs.Lists.{rowsAt, OneOf}
-use Rattle.text_crew.specs.Format.{digitsFor, headerLine, rowLine, rowLines, crewText}
+use Rattle.text_lines.specs.Format.{digitsFor, headerLine, rowLine, rowLines, crewText}
 use Rattle.text_crew.specs.Reader.{ReadReply}
 
 -- ---- the lines of a text

@@ -4,18 +4,16 @@ ghost use Rattle.text_crew.specs.Reader.{afterRows, readResult, readCrew
 ghost use Prim.Native.Nat.{_≤_};
 ghost use lib.ListN.{length};
 
-mod header;
-mod row;
 mod rows;
 
-use crate::header::Header;
-use crate::header::read_header;
 use crate::rows::RowsEnd;
 use crate::rows::read_rows;
 use refusals::REFUSED_CREW;
 use refusals::REFUSED_LIMITS;
 use refusals::REFUSED_TEXT;
 use tables::copy;
+use text_lines::Header;
+use text_lines::read_header;
 
 const BUFFER: usize = 512;
 

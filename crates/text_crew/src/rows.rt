@@ -3,11 +3,11 @@ ghost use mathlib.Core.Path.{_≡_};
 ghost use Prim.Native.Nat.{_≤_};
 ghost use mathlib.Core.List.{[]};
 ghost use Rattle.text_crew.specs.Reader.{RowsLaid, laid, rowsEnd, rowsTo};
-use crate::row::Row;
-use crate::row::read_row;
 use sets_256::Set256;
 use tables::store256;
-use text::hexadecimal_set;
+use text_lines::Row;
+use text_lines::read_row;
+use text_sets::hexadecimal_set;
 
 pub enum RowsEnd {
     // the place after the last row

@@ -14,12 +14,12 @@ use Rattle.model.specs.Record.{juniorsStart, membersStart, permissionsStart, se
 use Rattle.model.specs.Lists.{setAt}
 use Rattle.text.specs.Fixed.{comma, lineEnd}
 use Rattle.text.specs.Decimal.{decimal}
-use Rattle.text.specs.Hexadecimal.{hexadecimal}
+use Rattle.text_sets.specs.Hexadecimal.{hexadecimal}
 use Rattle.stores.specs.Stores.{putAt}
 use Rattle.stores.proofs.Stores.{putAt-append}
 use Rattle.text.proofs.Decimals.{length-decimal}
-use Rattle.text.proofs.Hexadecimals.{length-hexadecimal}
-use Rattle.text_crew.specs.Format.{digitsFor}
+use Rattle.text_sets.proofs.Hexadecimals.{length-hexadecimal}
+use Rattle.text_lines.specs.Format.{digitsFor}
 use Rattle.text_roles.specs.Lines.{field, line, linesTo, headLine, refusedText, rolesWord, refusedWord}
 use Rattle.text_roles.specs.Words.{Limited, wordsLine, standingLine, wordsLines}
 

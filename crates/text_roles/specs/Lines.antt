@@ -6,8 +6,8 @@ use Rattle.sets.specs.Truth.{if_then_else_}
 use Rattle.sets.specs.Sets.{has}
 use Rattle.text.specs.Fixed.{comma, lineEnd}
 use Rattle.text.specs.Decimal.{decimal}
-use Rattle.text.specs.Hexadecimal.{hexadecimal}
-use Rattle.text_crew.specs.Format.{digitsFor}
+use Rattle.text_sets.specs.Hexadecimal.{hexadecimal}
+use Rattle.text_lines.specs.Format.{digitsFor}
 
 -- "roles,"
 abbrev pub rolesWord : List ℕ

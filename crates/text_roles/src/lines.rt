@@ -5,7 +5,7 @@ ghost use lib.ListN.{length, getD};
 ghost use Rattle.model.specs.Lists.{setAt};
 ghost use Rattle.stores.specs.Stores.{putAt};
 ghost use Rattle.text.specs.Decimal.{decimal};
-ghost use Rattle.text_crew.specs.Format.{digitsFor};
+ghost use Rattle.text_lines.specs.Format.{digitsFor};
 ghost use Rattle.text_roles.specs.Lines.{field};
 ghost use Rattle.text_roles.specs.Words.{Limited, wordsLine, standingLine, wordsLines};
 use tables::JUNIORS;
@@ -17,8 +17,8 @@ use tables::load128;
 use tables::load256;
 use text::put_bytes;
 use text::put_decimal;
-use text::put_hexadecimal;
-use text::put_hexadecimal_128;
+use text_sets::put_hexadecimal;
+use text_sets::put_hexadecimal_128;
 
 // A decimal, where there is place for any.
 pub fn put_number(out: &mut [u8], at: usize, v: u64) -> usize

@@ -2,7 +2,7 @@
 -- Assumes nothing.
 use borrow.Author.Needs.{needs}
 use native.Mathlib.Omega.{arith}
-use Rattle.text.proofs.Hexadecimals.{hexadecimal-there}
+use Rattle.text_sets.proofs.Hexadecimals.{hexadecimal-there}
 use Rattle.test_text.proofs.number_at.Statement.{statement}
 use Rattle.test_text.proofs.number_at.Tie as tie
 

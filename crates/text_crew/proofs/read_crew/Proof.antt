@@ -2,10 +2,10 @@
 -- Assumes nothing.
 use Rattle.text_crew.proofs.Answers.{refused-is, wrong-buffer, too-long, by-crew, by-malformed, by-beyond}
 use Rattle.model.proofs.Record.{withinLimits-iff}
-use Rattle.text_crew.proofs.Forms.{header-form}
+use Rattle.text_lines.proofs.Forms.{header-form}
 use mathlib.Core.Path.{_≡_, sym, _∙_}
-use Rattle.text_crew.specs.declared.header.Header.the-variants.{Crew}
-use Rattle.text_crew.specs.Reader.{headerAt}
+use Rattle.text_lines.specs.declared.header.Header.the-variants.{Crew}
+use Rattle.text_lines.specs.Lines.{headerAt}
 use borrow.Author.Needs.{needs}
 use native.Mathlib.Omega.{arith}
 use Rattle.text_crew.proofs.read_crew.Statement.{statement}

@@ -3,11 +3,11 @@
 use mathlib.Core.Path.{refl, _≡_, sym, _∙_, ap}
 use Prim.Native.Nat.{_-_, _≤_}
 use Rattle.text_crew.proofs.Answers.{Filling, bit-yes, bit-no, fill-none, fill-more, fill-broken, fill-bit, fill-all}
-use Rattle.text_crew.proofs.Forms.{row-has, row-room}
+use Rattle.text_lines.proofs.Forms.{row-has, row-room}
 use Rattle.text_crew.proofs.Laid.{length-laid}
-use Rattle.text_crew.specs.Format.{digitsFor}
-use Rattle.text_crew.specs.declared.row.Row.the-variants.{Digits}
-use Rattle.text_crew.specs.Reader.{rowDigitsAt}
+use Rattle.text_lines.specs.Format.{digitsFor}
+use Rattle.text_lines.specs.declared.row.Row.the-variants.{Digits}
+use Rattle.text_lines.specs.Lines.{rowDigitsAt}
 use borrow.Author.Needs.{needs}
 use lib.Dec.{ltb}
 use lib.ListN.{length}

@@ -1,0 +1,2 @@
+pub mod Hexadecimals
+pub mod Written
