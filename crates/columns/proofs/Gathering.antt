@@ -18,7 +18,8 @@ use Rattle.sets.proofs.Order.{collect-zero, collect-lt, has-collect, collect-sa
 use Rattle.sets.proofs.Words.{Words, value-lt, value-one, value-collect, has-value}
 use Rattle.model.specs.Lists.{elems, setAt}
 use Rattle.model.proofs.Lists.{length-elems, getD-elems}
-use Rattle.columns.specs.Shuffles.{Loaded, Transposed}
+use Rattle.blocks.specs.Shuffles.{Transposed}
+use Rattle.columns.specs.Loading.{Loaded}
 
 -- word j of set x of the table is inside
 pub inside : (w x n l j : ℕ) → x < n → j < w → w * n ≤ l → w * x + j < l

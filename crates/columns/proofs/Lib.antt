@@ -1,2 +1,1 @@
 pub mod Gathering
-mod Shuffling

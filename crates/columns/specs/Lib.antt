@@ -1,1 +1,1 @@
-pub mod Shuffles
+pub mod Loading

@@ -7,10 +7,10 @@ ghost use Rattle.sets.specs.Sets.{has, collect};
 ghost use Rattle.sets.specs.Words.{value};
 ghost use Rattle.model.specs.Lists.{setAt};
 ghost use Rattle.tables.specs.Tables.{Filled, table128Length};
-ghost use Rattle.columns.specs.Shuffles.{Loaded};
+ghost use Rattle.columns.specs.Loading.{Loaded};
 use crate::one::column;
 use crate::one::in_first_word;
-use crate::transposition::transpose;
+use blocks::transpose;
 use sets_128::Set128;
 use tables::store128;
 

@@ -1,7 +1,6 @@
 // The columns of a table of sets: which sets hold an item. One by one, or all of them by transposing blocks of bits.
 mod all;
 mod one;
-mod transposition;
 
 pub use all::fill_columns;
 pub use all::fill_columns_of;

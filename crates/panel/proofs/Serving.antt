@@ -1,16 +1,16 @@
 -- A list of calls, served one by one; and condition 3 of what that leaves.
 -- Assumes nothing.
 use mathlib.Core.Path.{_≡_, refl, sym, _∙_, ap}
-use mathlib.Core.Bool.{true, false, So}
-use mathlib.Core.Logic.{_↔_, _≢_}
+use mathlib.Core.Bool.{false, So}
+use mathlib.Core.Logic.{_≢_}
 use mathlib.Core.List.{List, [], _∷_, _++_}
 use Prim.Native.Nat.{ℕ, suc, _+_, _-_, _*_, _/_, _≤_, _<_}
 use native.Mathlib.Omega.{arith}
-use lib.Dec.{eqb, ltb}
+use lib.Dec.{eqb}
 use lib.ListN.{length, getD, set, take, length-set}
 use lib.Seq.{take-all, take-suc-set}
-use Rattle.sets.specs.Truth.{_and_, all}
-use Rattle.sets.proofs.Truth.{So-not, not-So, and-iff, all-iff, eqb-iff, ltb-iff, all-more, if-true, if-false}
+use Rattle.sets.specs.Truth.{_and_}
+use Rattle.sets.proofs.Truth.{So-not, not-So, eqb-iff, if-true, if-false}
 use Rattle.model.specs.Lists.{rowsAt}
 use Rattle.model.specs.Candidates.{candidates}
 use Rattle.model.specs.State.{fresh}
@@ -38,7 +38,8 @@ use Rattle.call_restore.specs.Results.{restoreResult}
 use Rattle.call_eliminate.specs.Results.{eliminateResult}
 use Rattle.call_review.specs.Results.{reviewResult}
 use Rattle.panel.specs.Results.{outcomeResult}
-use Rattle.panel.specs.Lists.{callAt, callsFrom, callsIn, readable, answerWords, ServedAs}
+use Rattle.panel.specs.Lists.{ServedAs}
+use Rattle.calls_list.specs.Encoding.{callAt, callsFrom, callsIn, readable, answerWords}
 
 -- ---- one call by its kind
 
@@ -91,42 +92,6 @@ module _ (cs : List ℕ) (at : ℕ) (ws after : List ℕ) (r : Outcome) where
       → getD cs at 0 ≢ 0 → getD cs at 0 ≢ 1 → getD cs at 0 ≢ 2 → outcomeResult r after ≡ edit ws (callAt cs at)
   unfolding outcomeResult reviewResult
   served-review a e h d d' d'' = (λ i. record { replied = reply (e .0 i) (e .1 i) (e .2 i); words = after }) ∙ h ∙ ap (edit ws) (sym (call-review cs at d d' d''))
-
--- ---- whether a list can be read
-
-module _ (ws out : List ℕ) where
-  abbrev n : ℕ
-  n = length ws / 7
-
-  readable-iff : So (readable ws out) ↔ ((7 * n ≡ length ws) × (length out ≡ 3 * n) × ((i : ℕ) → i < n → getD ws (7 * i) 0 < 4))
-  unfolding readable
-  readable-iff = (
-    λ h.
-        let a = and-iff (eqb (7 * n) (length ws) and eqb (length out) (3 * n)) (all n (λ i. ltb (getD ws (7 * i) 0) 4)) .0 h in
-        let b = and-iff (eqb (7 * n) (length ws)) (eqb (length out) (3 * n)) .0 (a .0) in
-        (eqb-iff (7 * n) (length ws) .0 (b .0), eqb-iff (length out) (3 * n) .0 (b .1), λ i l. ltb-iff (getD ws (7 * i) 0) 4 .0 (all-iff n (λ i. ltb (getD ws (7 * i) 0) 4) .0 (a .1) i l)),
-    λ f.
-        and-iff (eqb (7 * n) (length ws) and eqb (length out) (3 * n)) (all n (λ i. ltb (getD ws (7 * i) 0) 4)) .1 (
-          and-iff (eqb (7 * n) (length ws)) (eqb (length out) (3 * n)) .1 (eqb-iff (7 * n) (length ws) .1 (f .0), eqb-iff (length out) (3 * n) .1 (f .1)),
-          all-iff n (λ i. ltb (getD ws (7 * i) 0) 4) .1 (λ i l. ltb-iff (getD ws (7 * i) 0) 4 .1 (f .2 i l)),
-        ),
-  )
-
-  pub readable-sizes : So (readable ws out) → (7 * (length ws / 7) ≡ length ws) × (length out ≡ 3 * (length ws / 7))
-  readable-sizes h = let a = readable-iff .0 h in (a .0, a .1)
-
-  pub readable-not : ((7 * n ≡ length ws) × (length out ≡ 3 * n) × ((i : ℕ) → i < n → getD ws (7 * i) 0 < 4) → ⊥) → false ≡ readable ws out
-  readable-not d = sym (not-So (readable ws out) (λ h. d (readable-iff .0 h)))
-
-  pub readable-all : (i : ℕ) → 7 * n ≡ length ws → length out ≡ 3 * n → n ≤ i → So (all i (λ i. ltb (getD ws (7 * i) 0) 4)) → true ≡ readable ws out
-  readable-all i a b l h =
-      sym (readable-iff .1 (a, b, λ j lj. ltb-iff (getD ws (7 * j) 0) 4 .0 (all-iff i (λ i. ltb (getD ws (7 * i) 0) 4) .0 h j (let z : j < i = omega arith in z))))
-
-pub kinds-none : (ws : List ℕ) → So (all 0 (λ i. ltb (getD ws (7 * i) 0) 4))
-kinds-none ws = all-iff 0 (λ i. ltb (getD ws (7 * i) 0) 4) .1 (λ i l. let z : ⊥ = omega arith in absurd z)
-
-pub kinds-more : (ws : List ℕ) (i : ℕ) → So (all i (λ i. ltb (getD ws (7 * i) 0) 4)) → getD ws (7 * i) 0 < 4 → So (all (i + 1) (λ i. ltb (getD ws (7 * i) 0) 4))
-kinds-more ws i h l = all-more i (λ i. ltb (getD ws (7 * i) 0) 4) h (ltb-iff (getD ws (7 * i) 0) 4 .1 l)
 
 -- ---- the calls one after the other: `ws` and `out` are what the first i have left
 

@@ -1,23 +1,22 @@
 // A list of calls, served through the outside calls themselves: condition 3 about the code that runs.
 ghost use mathlib.Core.Path.{_≡_};
 ghost use mathlib.Core.Bool.{So};
-ghost use Prim.Native.Nat.{_+_, _*_, _/_, _≤_};
+ghost use Prim.Native.Nat.{_+_, _≤_};
 ghost use lib.ListN.{length};
 ghost use Rattle.model.specs.Calls.{edit};
 ghost use Rattle.model.specs.Claim.{wordsAfter, repliesGiven};
 ghost use Rattle.panel.specs.Results.{outcomeResult};
-ghost use Rattle.panel.specs.Lists.{callAt, callsIn, readable, answerWords, ServedAs};
+ghost use Rattle.calls_list.specs.Encoding.{callAt, callsIn, readable, answerWords};
+ghost use Rattle.panel.specs.Lists.{ServedAs};
 use crate::exports::panel_eliminate;
 use crate::exports::panel_mine;
 use crate::exports::panel_restore;
 use crate::exports::panel_review;
 use crate::exports::panel_strike;
+use calls_list::ANSWER;
+use calls_list::CALL;
+use calls_list::can_read;
 use tables::copy;
-
-// The words of a call, and those of its answer.
-const CALL: usize = 7;
-
-const ANSWER: usize = 3;
 
 // Whether a list was served: it can't be read; its crew list is refused with this number; or it was mined, into this many candidates.
 pub enum Served {
@@ -31,27 +30,6 @@ pub struct Outcome {
     pub code: u64,
     pub changed: u64,
     pub examined: u64,
-}
-
-// Whether these are whole calls of known kinds, with room for their answers and no more.
-fn can_read(calls: &[u64], out: &[u64]) -> bool
-    ensures { λ r. ⌜ r ≡ readable (now (calls .entry)) (now (out .entry)) ⌝ }
-{
-    let n = calls.len() / CALL;
-    if CALL * n != calls.len() {
-        return false;
-    }
-    if out.len() != ANSWER * n {
-        return false;
-    }
-    let mut i = 0;
-    while i < n {
-        if 4 <= calls[CALL * i] {
-            return false;
-        }
-        i += 1;
-    }
-    true
 }
 
 // Makes the call that stands at a place of the list.

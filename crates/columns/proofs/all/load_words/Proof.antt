@@ -5,7 +5,7 @@ use mathlib.Core.Path.{_≡_}
 use native.Mathlib.Omega.{arith}
 use Prim.Native.Nat.{_+_, _-_, _*_, _≤_, _<_}
 use lib.ListN.{length, getD, length-set}
-use Rattle.columns.specs.Shuffles.{Loaded}
+use Rattle.columns.specs.Loading.{Loaded}
 use Rattle.columns.proofs.Gathering.{loaded-none, loaded-more}
 use Rattle.columns.proofs.all.load_words.Statement.{statement}
 use Rattle.columns.proofs.all.load_words.Tie as tie

@@ -5,7 +5,8 @@ use mathlib.Core.Path.{_≡_, refl}
 use Prim.Native.Nat.{_-_, _≤_}
 use native.Mathlib.Omega.{arith}
 use lib.ListN.{length}
-use Rattle.panel.proofs.Serving.{readable-sizes, Serving, serving-start, serving-more, serving-all}
+use Rattle.calls_list.proofs.Reading.{readable-sizes}
+use Rattle.panel.proofs.Serving.{Serving, serving-start, serving-more, serving-all}
 use Rattle.panel.proofs.list.serve_calls.Statement.{statement}
 use Rattle.panel.proofs.list.serve_calls.Tie as tie
 

@@ -5,10 +5,10 @@ use mathlib.Core.Path.{_≡_}
 use native.Mathlib.Omega.{arith}
 use Prim.Native.Nat.{_+_, _-_, _*_, _≤_}
 use lib.ListN.{length, length-set}
-use Rattle.columns.specs.Shuffles.{Shuffled}
-use Rattle.columns.proofs.Shuffling.{shuffled-none, shuffled-more}
-use Rattle.columns.proofs.transposition.shuffle.Statement.{statement}
-use Rattle.columns.proofs.transposition.shuffle.Tie as tie
+use Rattle.blocks.specs.Shuffles.{Shuffled}
+use Rattle.blocks.proofs.Shuffling.{shuffled-none, shuffled-more}
+use Rattle.blocks.proofs.shuffle.Statement.{statement}
+use Rattle.blocks.proofs.shuffle.Tie as tie
 
 abbrev Inv-loop : tie.InvT-loop
 Inv-loop from s m to₀ i₀ to i = (i ≤ 32) × (length to ≡ 64) × Shuffled (2 * i) s m from to

@@ -6,10 +6,9 @@ use native.Mathlib.Omega.{arith}
 use lib.Dec.{ltb}
 use lib.ListN.{getD}
 use Rattle.sets.specs.Truth.{all}
-use Rattle.panel.proofs.Serving.{readable-not, readable-all, kinds-none, kinds-more}
--- The kinds before i are known.
-use Rattle.panel.proofs.list.can_read.Statement.{statement}
-use Rattle.panel.proofs.list.can_read.Tie as tie
+use Rattle.calls_list.proofs.Reading.{readable-not, readable-all, kinds-none, kinds-more}
+use Rattle.calls_list.proofs.can_read.Statement.{statement}
+use Rattle.calls_list.proofs.can_read.Tie as tie
 
 abbrev Inv-loop : tie.InvT-loop
 Inv-loop calls out n i₀ i = (i ≤ n) × So (all i (λ i. ltb (getD calls (7 * i) 0) 4))

@@ -3,7 +3,7 @@
 use mathlib.Core.Path.{_≡_}
 use mathlib.Core.Bool.{Bool}
 use mathlib.Core.List.{List}
-use Prim.Native.Nat.{ℕ, _+_, _-_, _*_, _/_, _%_, _≤_, _<_}
+use Prim.Native.Nat.{ℕ, _+_, _-_, _*_, _/_, _%_, _<_}
 use lib.Dec.{leb}
 use lib.ListN.{getD}
 use Rattle.sets.specs.Truth.{_and_, isnt, if_then_else_, all}
@@ -27,8 +27,3 @@ pub record Shuffled (n s m : ℕ) (before ws : List ℕ) : Type 0 where
 -- word r of one has bit c exactly where word c of the other has bit r
 pub record Transposed (before ws : List ℕ) : Type 0 where
   pub turned : (r c : ℕ) → r < 64 → c < 64 → has (getD ws r 0) c ≡ has (getD before c 0) r
-
--- the first n words are those that f tells, and the others are as before
-pub record Loaded (n : ℕ) (f : ℕ → ℕ) (before ws : List ℕ) : Type 0 where
-  pub inside : (q : ℕ) → q < n → getD ws q 0 ≡ f q
-  pub past : (q : ℕ) → n ≤ q → getD ws q 0 ≡ getD before q 0

@@ -17,7 +17,7 @@ use Rattle.sets.proofs.Truth.{by-test, either, equal-or, same-test, not-So, and
 use Rattle.sets.proofs.Words.{masked, has-shift}
 use Rattle.sets.proofs.Written.{has-and, has-or, has-masked, has-up, none-up}
 use Rattle.model.proofs.Everything.{everything}
-use Rattle.columns.specs.Shuffles.{spaced, fromRow, fromColumn, Shuffled, Transposed}
+use Rattle.blocks.specs.Shuffles.{spaced, fromRow, fromColumn, Shuffled, Transposed}
 
 -- ---- the two words that a shuffle makes of two
 

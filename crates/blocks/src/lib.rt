@@ -1,9 +1,9 @@
-// 64 words of 64 bits, rows made columns: the bit in word r at place c goes to word c, place r.
+// A block, 64 words of 64 bits, rows made columns: the bit in word r at place c goes to word c, place r.
 ghost use mathlib.Core.Path.{_≡_};
 ghost use mathlib.Core.Bool.{So};
 ghost use Prim.Native.Nat.{_<_};
 ghost use lib.ListN.{length};
-ghost use Rattle.columns.specs.Shuffles.{spaced, Shuffled, Transposed};
+ghost use Rattle.blocks.specs.Shuffles.{spaced, Shuffled, Transposed};
 
 // Six shuffles, each with half the step of the one before: a word's number gives up its highest digit and gets one of the place's. They make 192
 // pairs of words, for 4,096 bits.

@@ -1,9 +1,9 @@
 -- Six shuffles, by `six-transpose`.
 -- Assumes nothing.
 use borrow.Author.Needs.{needs}
-use Rattle.columns.proofs.Shuffling.{six-transpose, spaced-32, spaced-16, spaced-8, spaced-4, spaced-2, spaced-1}
-use Rattle.columns.proofs.transposition.transpose.Statement.{statement}
-use Rattle.columns.proofs.transposition.transpose.Tie as tie
+use Rattle.blocks.proofs.Shuffling.{six-transpose, spaced-32, spaced-16, spaced-8, spaced-4, spaced-2, spaced-1}
+use Rattle.blocks.proofs.transpose.Statement.{statement}
+use Rattle.blocks.proofs.transpose.Tie as tie
 
 slice-aggregate-shuffle : tie.Need-slice-aggregate-shuffle
 slice-aggregate-shuffle c = search needs
