@@ -7,6 +7,9 @@ PYTHON = install Python 3
 GCC = install GCC
 CARGO = install Rust with cargo
 
+# each check of the prover is one thread; four at a time keep two cores busy where they differ in length
+PROVE = TMPDIR=$$(sh tools/scratch.sh) RT_JOBS=4 rt
+
 LIBRARY = target/staticlib/libpanel.a
 HOST = --offline --quiet --manifest-path host/Cargo.toml
 
@@ -17,7 +20,7 @@ test:
 	@$(call need,python3,$(PYTHON))
 	rt fmt --check
 	@$(MAKE) --no-print-directory -j2 checks
-	RT_JOBS=2 rt ci
+	$(PROVE) ci
 
 # what the gate checks beside the proofs, two at a time
 checks: test-vectors test-model test-header test-trust
@@ -43,7 +46,7 @@ run:
 	@test -r "$(CREW)" || { echo "make run: can't read $(CREW)" >&2; exit 1; }
 	@mkdir -p target
 	@echo "proving and building the lister (some minutes the first time; log: target/run.log)" >&2
-	@{ rt check lister 2>&1; echo $$? > target/run.status; } | tee target/run.log | awk -f tools/progress.awk -v program=lister crates.txt - >&2
+	@{ $(PROVE) check lister 2>&1; echo $$? > target/run.status; } | tee target/run.log | awk -f tools/progress.awk -v program=lister crates.txt - >&2
 	@test "$$(cat target/run.status)" = 0 || { echo "make run: the lister could not be proved or built: see target/run.log" >&2; exit 1; }
 	@target/bin/lister < "$(CREW)" > target/roles.txt
 	@$(if $(PRETTY),python3 tools/pretty.py "$(CREW)" target/roles.svg < target/roles.txt,cat target/roles.txt)
@@ -55,7 +58,7 @@ vectors:
 example:
 	@$(call need,rt,$(RATTLE))
 	@$(call need,gcc,$(GCC))
-	rt staticlib panel
+	$(PROVE) staticlib panel
 	gcc -std=c99 -O2 -Wall -Wextra -pedantic -Werror -Iinclude examples/panel.c $(LIBRARY) -o target/example
 	./target/example
 
@@ -63,12 +66,12 @@ host-test:
 	@$(call need,rt,$(RATTLE))
 	@$(call need,cargo,$(CARGO))
 	@$(call need,gcc,$(GCC))
-	rt staticlib panel
+	$(PROVE) staticlib panel
 	cargo test $(HOST) --test compare
 
 bench:
 	@$(call need,rt,$(RATTLE))
 	@$(call need,cargo,$(CARGO))
 	@$(call need,gcc,$(GCC))
-	rt staticlib panel
+	$(PROVE) staticlib panel
 	cargo run $(HOST) --release --bin bench

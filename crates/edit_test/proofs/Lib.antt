@@ -1,4 +1,3 @@
 pub mod Walking
 pub mod Covering
-pub mod Holding
 pub mod Removing

@@ -24,10 +24,6 @@ userCovered ρ s ps u = each (ρ .permissions) ps (λ p. grant ρ u p implies co
 unfoldable pub grantsCovered : Roles → ℕ → ℕ → ℕ → Bool
 grantsCovered ρ s us ps = each (ρ .users) us (userCovered ρ s ps)
 
--- the entries of a table, two words each, for the items of s
-abbrev pub HoldsFor : ℕ → (ℕ → ℕ) → List ℕ → Type 0
-HoldsFor s f ws = (p : ℕ) → So (has s p) → setAt 2 ws (2 * p) ≡ f p
-
 -- the record has the crew rows; the index the roles of each user, and the roles that hold each permission of ps
 pub record Asked (ρ : Roles) (ws index : List ℕ) (ps : ℕ) : Type 0 where
   pub few-users : ρ .users ≤ 128

@@ -6,8 +6,8 @@ use Rattle.sets_256.specs.Held.{set256}
 use Rattle.sets.proofs.Written.{words}
 use Rattle.sets_256.proofs.Held.{held256}
 use Rattle.sets.proofs.Extremes.{lowest-known, lowest-some}
-use Rattle.edit_test.proofs.holders.lowest_permission.Statement.{statement}
-use Rattle.edit_test.proofs.holders.lowest_permission.Tie as tie
+use Rattle.holders.proofs.lowest_permission.Statement.{statement}
+use Rattle.holders.proofs.lowest_permission.Tie as tie
 
 lowest-requires : tie.Need-lowest-requires
 lowest-requires c κs = search needs

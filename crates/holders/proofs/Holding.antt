@@ -25,7 +25,7 @@ use Rattle.tables.proofs.Tables.{HeldBut}
 use Rattle.hierarchy.proofs.Reading.{read-sets}
 use Rattle.indexes.specs.Index.{indexLength, lowerStart, rolesStart, usersStart, holdersStart, Indexed, HoldersFor}
 use Rattle.indexes.proofs.Sources.{narrow}
-use Rattle.edit_test.specs.Covering.{HoldsFor}
+use Rattle.holders.specs.Holding.{HoldsFor}
 
 -- once none is left to do, each has its entry
 pub held-all : (s rest : ℕ) (f : ℕ → ℕ) (ws : List ℕ) → HeldBut s rest f ws → rest ≡ 0 → HoldsFor s f ws

@@ -8,9 +8,9 @@ use lib.ListN.{length}
 use Rattle.sets_256.specs.Held.{set256}
 use Rattle.sets.proofs.Written.{words}
 use Rattle.sets_256.proofs.Held.{held256}
-use Rattle.edit_test.proofs.Holding.{index-kept, holders-read}
-use Rattle.edit_test.proofs.holders.fill_holders.Statement.{statement}
-use Rattle.edit_test.proofs.holders.fill_holders.Tie as tie
+use Rattle.holders.proofs.Holding.{index-kept, holders-read}
+use Rattle.holders.proofs.fill_holders.Statement.{statement}
+use Rattle.holders.proofs.fill_holders.Tie as tie
 
 shared-slice-read-c : tie.Need-shared-slice-read-c
 shared-slice-read-c c = search needs

@@ -14,9 +14,9 @@ use Rattle.sets_128.proofs.Held.{held128}
 use Rattle.model.specs.Lists.{setAt}
 use Rattle.hierarchy.proofs.Sieving.{fewer, not-empty, is-empty}
 use Rattle.tables.proofs.Tables.{HeldBut, held-start, held-more}
-use Rattle.edit_test.proofs.Holding.{held-all}
-use Rattle.edit_test.proofs.holders.fill_few_columns_for.Statement.{statement}
-use Rattle.edit_test.proofs.holders.fill_few_columns_for.Tie as tie
+use Rattle.holders.proofs.Holding.{held-all}
+use Rattle.holders.proofs.fill_few_columns_for.Statement.{statement}
+use Rattle.holders.proofs.fill_few_columns_for.Tie as tie
 
 abbrev Inv-loop : tie.InvT-loop
 Inv-loop table c out₀ rest₀ out rest = (length out ≡ 512) × HeldBut (set256 rest₀) (set256 rest) (λ p. collect c (λ k. has (setAt 4 table (4 * k)) p)) out

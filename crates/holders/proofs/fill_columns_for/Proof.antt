@@ -6,8 +6,8 @@ use Rattle.sets_256.specs.Held.{set256}
 use Rattle.sets.proofs.Items.{item-below}
 use Rattle.sets.proofs.Written.{words}
 use Rattle.sets_256.proofs.Held.{held256}
-use Rattle.edit_test.proofs.holders.fill_columns_for.Statement.{statement}
-use Rattle.edit_test.proofs.holders.fill_columns_for.Tie as tie
+use Rattle.holders.proofs.fill_columns_for.Statement.{statement}
+use Rattle.holders.proofs.fill_columns_for.Tie as tie
 
 count-requires : tie.Need-count-requires
 count-requires c κs = search needs

@@ -12,7 +12,7 @@ ghost use Rattle.model.specs.Hierarchy.{Roles};
 ghost use Rattle.model.specs.Record.{recordLength, built, Limits};
 ghost use Rattle.model.specs.State.{State, rolesOf};
 ghost use Rattle.indexes.specs.Index.{indexLength, Indexed, HoldersFor, holdersLength};
-ghost use Rattle.edit_test.specs.Covering.{HoldsFor};
+ghost use Rattle.holders.specs.Holding.{HoldsFor};
 use columns::column_of;
 use columns::fill_columns_of;
 use indexes::HOLDERS;
