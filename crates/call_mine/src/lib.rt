@@ -6,10 +6,9 @@ use calls::length_refusal;
 use limits::crew_refusal;
 use limits::limits_refusal;
 use mining::Mined;
-use records::mine_record;
+use mining::mine;
 use records::write_fresh;
 use refusals::REFUSED_CANDIDATES;
-use tables::LENGTH;
 
 // The refusal's number, or 0, and beside 0 the number of candidates.
 #[repr(C)]
@@ -52,11 +51,11 @@ pub fn panel_mine(n: u64, m: u64, crew: &[u64], rec: &mut [u64]) -> MineAnswer
     if code != 0 {
         return refused(code);
     }
-    let mut image = [0u64; LENGTH];
-    let Mined::Count(c) = mine_record(&mut image, crew, 0, n as usize) else {
+    let mut table = [0u64; 512];
+    let Mined::Count(c) = mine(crew, 0, n as usize, &mut table) else {
         return refused(REFUSED_CANDIDATES);
     };
-    write_fresh(rec, &mut image, crew, n as usize, m, c);
+    write_fresh(rec, &table, crew, n as usize, m, c);
     MineAnswer {
         code: 0,
         candidates: c as u64,

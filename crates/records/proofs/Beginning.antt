@@ -2,47 +2,34 @@
 -- Assumes nothing.
 use mathlib.Core.Path.{_≡_, refl, sym, _∙_, ap}
 use mathlib.Core.Logic.{_⊎_, ⊎-elim}
-use mathlib.Core.List.{List, [], _∷_, _++_}
+use mathlib.Core.List.{List, [], _∷_}
 use Prim.Native.Nat.{ℕ, _+_, _-_, _*_, _^_, _≤_, _<_}
-use native.Mathlib.Nat.{lt-of-lt-of-le, min-le-left}
+use native.Mathlib.Nat.{lt-of-lt-of-le}
 use native.Mathlib.Omega.{arith}
-use lib.ListN.{length, getD, set, take, drop, length-take, length-drop, List·getD-eq-default}
+use lib.ListN.{length, getD, set, take, drop, length-drop, List·getD-eq-default}
 use lib.Pow.{pow-mono}
 use lib.Seq.{ext-getD, getD-take, getD-drop, length-take-le}
 use Rattle.sets.specs.Words.{word}
 use Rattle.sets.proofs.Truth.{either}
 use Rattle.sets.proofs.Items.{digit}
-use Rattle.sets.proofs.Words.{word-value, word-zero}
-use Rattle.model.specs.Lists.{elems, setAt, rowsAt}
+use Rattle.sets.proofs.Words.{word-zero}
+use Rattle.model.specs.Lists.{setAt, rowsAt}
 use Rattle.model.specs.Candidates.{candidates}
 use Rattle.model.specs.Hierarchy.{candidateCount, permissionSet}
 use Rattle.model.specs.Record.{recordLength, crewStart, setsStart, headerWord, wordAt, built, Limits}
 use Rattle.model.specs.State.{State, rolesOf}
 use Rattle.model.proofs.Candidates.{candidates-growing}
-use Rattle.model.proofs.Lists.{length-elems, getD-elems, length-rowsAt, getD-rowsAt, setAt-words}
+use Rattle.model.proofs.Lists.{length-rowsAt, getD-rowsAt, setAt-words}
 use Rattle.model.proofs.Record.{row-below, standing-small, built-length, built-word, word-head, word-crew, word-set}
 use Rattle.stores.specs.Stores.{putAt}
-use Rattle.stores.proofs.Stores.{length-putAt, putAt-below, putAt-above, putAt-in, part-back}
+use Rattle.stores.proofs.Stores.{length-putAt, putAt-below, putAt-above, putAt-in}
 use Rattle.tables.proofs.Parts.{setAt-part}
-use Rattle.mining.specs.Mining.{Written, Mines}
-use Rattle.mining.specs.declared.Mined.{Mined}
-use Rattle.mining.specs.declared.Mined.the-variants.{Count, TooMany}
+use Rattle.mining.specs.Mining.{Written}
 use Rattle.indexes.specs.Tables.{FillsFrom, SourceOf}
 use Rattle.indexes.proofs.Sources.{narrow}
 use Rattle.rows.specs.Partway.{Headed, WithoutRows}
-use Rattle.records.specs.Records.{OnlyCandidates, MinesInto, Described}
-
--- word j of the set that stands at a place
-pub word-of : (w : ℕ) (ws : List ℕ) (at j : ℕ) → ((i : ℕ) → getD ws i 0 < 2 ^ 64) → j < w → getD ws (at + j) 0 ≡ word (setAt w ws at) j
-unfolding setAt
-word-of w ws at j fits l =
-    sym (getD-elems ws at w j l)
-    ∙ sym (word-value (elems ws at w) j
-    (λ i.
-    either i w (λ b. rw (getD-elems ws at w i b) (fits (at + i)))
-    (λ b.
-    let far : length (elems ws at w) ≤ i = rw (length-elems ws at w) b in
-    rw (List·getD-eq-default (elems ws at w) 0 far) (omega arith))))
+use Rattle.rows_check.proofs.Rows.{word-of}
+use Rattle.records.specs.Records.{OnlyCandidates, Described}
 
 -- the header's eight words
 pub header-is : (st : State) (n m c r : ℕ) → st .users ≡ n → st .permissions ≡ m → candidateCount (rolesOf st) ≡ c → st .standing ≡ r
@@ -56,15 +43,7 @@ pub stored8 : (ws : List ℕ) (a b c d e f g h r : ℕ) → e ≡ word r 0 → f
 unfolding putAt
 stored8 ws a b c d e f g h r ee ef = rw (ee, ef) refl
 
--- ---- the candidates, mined into a record of zeros
-
-pub zero-part : (ws : List ℕ) → ((i : ℕ) → getD ws i 0 ≡ 0) → (at n i : ℕ) → getD (take n (drop at ws)) i 0 ≡ 0
-zero-part ws zero at n i =
-    either i n (λ l. getD-take n (drop at ws) i 0 l ∙ getD-drop at ws i 0 ∙ zero (at + i))
-    (λ l.
-    let most : length (take n (drop at ws)) ≤ n = rw (length-take n (drop at ws)) (min-le-left n (length (drop at ws))) in
-    let far : length (take n (drop at ws)) ≤ i = omega arith in
-    List·getD-eq-default (take n (drop at ws)) 0 far)
+-- ---- the candidates, written into a record of zeros
 
 pub only-candidates : (ws table xs : List ℕ) (c : ℕ) → length ws ≡ recordLength → ((i : ℕ) → getD ws i 0 ≡ 0) → Written table c xs
     → OnlyCandidates (putAt ws setsStart table) xs
@@ -79,28 +58,21 @@ only-candidates ws table xs c size zero w =
           ⊎-elim (λ l. putAt-below ws setsStart table i l ∙ zero i) (λ l. putAt-above ws setsStart table i (omega arith) ∙ zero i) far;
     }
 
--- the same of what mining answers
-pub mined-into : (xs ws table : List ℕ) (r : Mined) → length ws ≡ recordLength → ((i : ℕ) → getD ws i 0 ≡ 0) → length table ≡ 512 → Mines xs table r
-    → MinesInto xs (take setsStart ws ++ (table ++ drop 512 (drop setsStart ws))) r
-mined-into xs ws table (Count k) size zero lt w =
-    (rw (part-back ws setsStart 512 table lt (omega arith)) (only-candidates ws table xs k size zero w), w .holds .count, w .holds .frame .few)
-mined-into xs ws table TooMany size zero lt many = many
-
 -- ---- the header and the crew rows
 
-module _ (st : State) (ws crew : List ℕ) (at n m c r e : ℕ) (d : Described st crew at n m c r) (o : OnlyCandidates ws (candidates (st .rows)))
-    (end : e ≡ at + 4 * n) (fits : e ≤ length crew) (words : (i : ℕ) → getD crew i 0 < 2 ^ 64) where
+module _ (st : State) (ws crew : List ℕ) (n m c r : ℕ) (d : Described st crew n m c r) (o : OnlyCandidates ws (candidates (st .rows)))
+    (fits : 4 * n ≤ length crew) (words : (i : ℕ) → getD crew i 0 < 2 ^ 64) where
   abbrev head : List ℕ
   head = n ∷ m ∷ c ∷ 0 ∷ word r 0 ∷ word r 1 ∷ 0 ∷ 0 ∷ []
 
   abbrev rows : List ℕ
-  rows = take (e - at) (drop at crew)
+  rows = take (4 * n - 0) (drop 0 crew)
 
   abbrev first : List ℕ
   first = putAt ws 0 (n ∷ m ∷ c ∷ 0 ∷ word r 0 ∷ word r 1 ∷ 0 ∷ 0 ∷ [])
 
-  rows-length : length (take (e - at) (drop at crew)) ≡ 4 * n
-  rows-length = length-take-le (e - at) (drop at crew) (rw (length-drop at crew) (omega arith)) ∙ (let x : e - at ≡ 4 * n = omega arith in x)
+  rows-length : length (take (4 * n - 0) (drop 0 crew)) ≡ 4 * n
+  rows-length = length-take-le (4 * n - 0) (drop 0 crew) (rw (length-drop 0 crew) (omega arith)) ∙ (let x : 4 * n - 0 ≡ 4 * n = omega arith in x)
 
   few : n ≤ 128
   few = rw (d .users) at (d .limits .users-most)
@@ -117,17 +89,17 @@ module _ (st : State) (ws crew : List ℕ) (at n m c r e : ℕ) (d : Described s
       either u n
       (λ l.
       let x : crewStart + 4 * u + j ≡ crewStart + (4 * u + j) = omega arith in
-      let y : at + (4 * u + j) ≡ at + 4 * u + j = omega arith in
+      let y : 0 + (4 * u + j) ≡ 0 + 4 * u + j = omega arith in
       let inside : 4 * u + j < length rows = rw rows-length (omega arith) in
       rw x (putAt-in first crewStart rows (4 * u + j) (rw (rows-length, first-length) (omega arith)) inside)
-      ∙ getD-take (e - at) (drop at crew) (4 * u + j) 0 (omega arith) ∙ getD-drop at crew (4 * u + j) 0 ∙ ap (λ (i : ℕ). getD crew i 0) y
-      ∙ word-of 4 crew (at + 4 * u) j words lj ∙ ap (λ (s : ℕ). word s j) (sym (ap (λ (l : List ℕ). getD l u 0) (d .rows) ∙ getD-rowsAt n crew at u l)))
+      ∙ getD-take (4 * n - 0) (drop 0 crew) (4 * u + j) 0 (omega arith) ∙ getD-drop 0 crew (4 * u + j) 0 ∙ ap (λ (i : ℕ). getD crew i 0) y
+      ∙ word-of 4 crew (0 + 4 * u) j words lj ∙ ap (λ (s : ℕ). word s j) (sym (ap (λ (l : List ℕ). getD l u 0) (d .rows) ∙ getD-rowsAt n crew 0 u l)))
       (λ l.
       let far : length (st .rows) ≤ u = rw (d .limits .rows-count ∙ d .users) l in
       behind (crewStart + 4 * u + j) (omega arith) ∙ o .rest (crewStart + 4 * u + j) (_⊎_.inl (omega arith)) ∙ sym (word-zero j)
       ∙ ap (λ (s : ℕ). word s j) (sym (List·getD-eq-default (st .rows) 0 far)))
 
-  pub begun : WithoutRows st (putAt (putAt ws 0 (n ∷ m ∷ c ∷ 0 ∷ word r 0 ∷ word r 1 ∷ 0 ∷ 0 ∷ [])) crewStart (take (e - at) (drop at crew)))
+  pub begun : WithoutRows st (putAt (putAt ws 0 (n ∷ m ∷ c ∷ 0 ∷ word r 0 ∷ word r 1 ∷ 0 ∷ 0 ∷ [])) crewStart (take (4 * n - 0) (drop 0 crew)))
   unfolding permissionSet rolesOf
   begun =
       let b = few in

@@ -2,6 +2,7 @@
 -- Assumes nothing.
 use mathlib.Core.Path.{_≡_, refl, sym, _∙_, ap}
 use mathlib.Core.Bool.{Bool, true, false, So, not}
+use mathlib.Core.Logic.{_↔_}
 use mathlib.Core.List.{List}
 use Prim.Native.Nat.{ℕ, _+_, _^_, _≤_, _<_}
 use native.Mathlib.Omega.{arith}
@@ -22,8 +23,12 @@ use Rattle.model.specs.Record.{recordLength, crewStart, built, stateOf, sound, 
 use Rattle.model.specs.State.{rolesOf, fresh, withinLimits, rowsWithin}
 use Rattle.model.proofs.Lists.{length-rowsAt}
 use Rattle.model.proofs.Record.{withinLimits-iff, rowsWithin-iff, sound-iff, sound-built, built-length}
-use Rattle.rows.specs.Linked.{Ready}
+use Rattle.indexes.specs.Index.{Indexed}
+use Rattle.rows.specs.Linked.{Linked, Ready}
+use Rattle.rows.specs.Partway.{Headed}
+use Rattle.rows_check.proofs.Telling.{failed}
 use Rattle.records.specs.Records.{OnlyCandidates, Described}
+use Rattle.records.proofs.Beginning.{built-headed}
 
 -- ---- what two tests in a row tell
 
@@ -54,6 +59,9 @@ module _ (ws : List ℕ) (full : length ws ≡ recordLength) where
         withinLimits-iff (getD ws 0 0) (getD ws 1 0) .1 (l .users-some, l .users-most, l .permissions-some, l .permissions-most),
         rowsWithin-iff (getD ws 1 0) (rowsAt (getD ws 0 0) ws crewStart) .1 (λ u b. l .rows-below u (rw (length-rowsAt (getD ws 0 0) ws crewStart) at b)),
       ))))
+
+  pub unheaded : (t : Bool) → So t ↔ Headed (stateOf ws) ws → not t ≡ true → false ≡ sound ws
+  unheaded t k h = sym (not-So (sound ws) (λ s. failed t k h (built-headed (stateOf ws) ws (sound-built ws s))))
 
   pub limited-users : So limited → getD ws 0 0 ≤ 128
   limited-users ok =
@@ -111,42 +119,25 @@ module _ (ws : List ℕ) (full : length ws ≡ recordLength) where
             standing-below = rw counted low-enough;
           }
 
--- ---- a record within the limits, held against the one that is built afresh
+-- ---- a record within the limits
 
 module _ (ws : List ℕ) (full : length ws ≡ recordLength) (lim : Limits (stateOf ws)) where
   pub few-users : getD ws 0 0 ≤ 128
   unfolding stateOf
   few-users = lim .users-most
 
-  pub described : (c : ℕ) → candidateCount (rolesOf (stateOf ws)) ≡ c → Described (stateOf ws) ws crewStart (getD ws 0 0) (getD ws 1 0) c (setAt 2 ws 4)
-  unfolding stateOf
-  described c e = record { limits = lim; users = refl; permissions = refl; rows = refl; count = e; standing = refl }
-
   pub uncovered : (t : Bool) → t ≡ allCovered (rolesOf (stateOf ws)) (stateOf ws .standing) → not t ≡ true → false ≡ sound ws
   uncovered t e h = sym (not-So (sound ws) (λ s. So-not (sym e ∙ not-true t h) (sound-iff ws .0 s .2)))
 
-  pub compared : (t r : Bool) (image : List ℕ) → t ≡ allCovered (rolesOf (stateOf ws)) (stateOf ws .standing) → not t ≡ false → image ≡ built (stateOf ws)
-      → r ≡ all (length image) (λ i. eqb (getD ws (0 + i) 0) (getD image i 0)) → r ≡ sound ws
-  compared t r image et h ei er =
-      let st = stateOf ws in
-      let f : ℕ → Bool = λ i. eqb (getD ws (0 + i) 0) (getD image i 0) in
-      let size : length image ≡ recordLength = ap length ei ∙ built-length st in
-      let z : (i : ℕ) → 0 + i ≡ i = λ i. (let e : 0 + i ≡ i = omega arith in e) in
-      er
-      ∙ same-test (all (length image) f) (sound ws)
-      (λ a.
-      let same : ws ≡ image =
-      ext-getD 0 ws image (full ∙ sym size)
-      (λ i l. rw (z i) at (eqb-iff (getD ws (0 + i) 0) (getD image i 0) .0 (all-iff (length image) f .0 a i (rw (full ∙ sym size) at l)))) in
-      sound-iff ws .1 (full, lim, sym et ∙ not-false t h, same ∙ ei))
-      (λ s.
-      let same : ws ≡ image = sound-built ws s ∙ sym ei in
-      all-iff (length image) f .1 (λ i l. eqb-iff (getD ws (0 + i) 0) (getD image i 0) .1 (ap (λ (k : ℕ). getD ws k 0) (z i) ∙ ap (λ (l : List ℕ). getD l i 0) same)))
+  -- the rows decide
+  module _ (t r : Bool) (et : t ≡ allCovered (rolesOf (stateOf ws)) (stateOf ws .standing)) (h : not t ≡ false) (rows : So r ↔ (ws ≡ built (stateOf ws))) where
+    pub compared : r ≡ sound ws
+    compared =
+        same-test r (sound ws) (λ a. sound-iff ws .1 (full, lim, sym et ∙ not-false t h, rows .0 a)) (λ s. rows .1 (sound-built ws s))
 
-  pub ready : (image index seniors : List ℕ) → Ready (stateOf ws) image index seniors → So (sound ws) → Ready (stateOf ws) ws index seniors
-  ready image index seniors h s =
-      let same : image ≡ ws = h .afresh ∙ sym (sound-built ws s) in
-      record { limits = lim; afresh = sound-built ws s; indexed = h .indexed; linked = rw same at (h .linked) }
+    pub ready : (index seniors : List ℕ) → Indexed (rolesOf (stateOf ws)) index → (So r → Linked ws seniors) → So (sound ws) → Ready (stateOf ws) ws index seniors
+    ready index seniors ix linked s =
+        record { limits = lim; afresh = sound-built ws s; indexed = ix; linked = linked (compared ∙ s) }
 
 module _ (n m : ℕ) (rows : List ℕ) (lim : Limits (fresh n m rows)) where
   pub fresh-few : n ≤ 128
@@ -169,7 +160,7 @@ all-standing n m rows c few count =
     (λ k x. collect-iff c (λ k. true) k .1 (ltb-iff k c .0 (collect-iff 128 (λ k. ltb k c) k .0 x .1), refl)))
 
 pub fresh-described : (n m : ℕ) (crew : List ℕ) (c r : ℕ) → Limits (fresh n m (rowsAt n crew 0)) → candidateCount (rolesOf (fresh n m (rowsAt n crew 0))) ≡ c
-    → r ≡ collect 128 (λ k. ltb k c) → Described (fresh n m (rowsAt n crew 0)) crew 0 n m c r
+    → r ≡ collect 128 (λ k. ltb k c) → Described (fresh n m (rowsAt n crew 0)) crew n m c r
 unfolding fresh
 fresh-described n m crew c r lim count er =
     record {

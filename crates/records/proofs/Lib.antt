@@ -1,3 +1,4 @@
 pub mod Beginning
 pub mod Covering
 pub mod Judging
+pub mod Heading

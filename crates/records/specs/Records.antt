@@ -4,7 +4,7 @@ use mathlib.Core.Path.{_≡_}
 use mathlib.Core.Bool.{Bool}
 use mathlib.Core.Logic.{_⊎_}
 use mathlib.Core.List.{List}
-use Prim.Native.Nat.{ℕ, _≤_, _<_}
+use Prim.Native.Nat.{ℕ, _+_, _*_, _≤_, _<_}
 use lib.ListN.{length, getD}
 use Rattle.sets.specs.Truth.{_implies_, all}
 use Rattle.sets.specs.Sets.{_∩_}
@@ -12,10 +12,9 @@ use Rattle.model.specs.Lists.{rowsAt}
 use Rattle.model.specs.Coverage.{grant, covered}
 use Rattle.model.specs.Hierarchy.{candidateCount}
 use Rattle.model.specs.Indexes.{rolesOfUser}
-use Rattle.model.specs.Record.{recordLength, setsStart, permissionsStart, Limits}
+use Rattle.model.specs.Record.{recordLength, crewStart, setsStart, permissionsStart, Limits}
 use Rattle.model.specs.State.{State, rolesOf}
-use Rattle.mining.specs.declared.Mined.{Mined}
-use Rattle.mining.specs.declared.Mined.the-variants.{Count, TooMany}
+use Rattle.tables.specs.Tables.{ZeroFrom}
 use Rattle.rows.specs.Partway.{Region}
 
 -- a record with nothing in it but the candidates xs
@@ -24,19 +23,20 @@ pub record OnlyCandidates (ws xs : List ℕ) : Type 0 where
   pub sets : Region 4 setsStart (λ k. getD xs k 0) ws
   pub rest : (i : ℕ) → (i < setsStart) ⊎ (permissionsStart ≤ i) → getD ws i 0 ≡ 0
 
--- a record of zeros that was to get the candidates xs: it has them, and there are k; or there are too many
-abbrev pub MinesInto : List ℕ → List ℕ → Mined → Type 0
-MinesInto xs ws (Count k) = OnlyCandidates ws xs × (k ≡ length xs) × (k ≤ 128)
-MinesInto xs ws TooMany = 128 < length xs
-
--- a state within the limits whose crew rows are the n rows from place `at` on, with m permissions, c candidates and the standing set r
-pub record Described (st : State) (crew : List ℕ) (at n m c r : ℕ) : Type 0 where
+-- a state within the limits whose crew rows are the first n of `crew`, with m permissions, c candidates and the standing set r
+pub record Described (st : State) (crew : List ℕ) (n m c r : ℕ) : Type 0 where
   pub limits : Limits st
   pub users : st .users ≡ n
   pub permissions : st .permissions ≡ m
-  pub rows : st .rows ≡ rowsAt n crew at
+  pub rows : st .rows ≡ rowsAt n crew 0
   pub count : candidateCount (rolesOf st) ≡ c
   pub standing : st .standing ≡ r
+
+-- the words before the candidates that nothing uses, with n users
+pub record UnusedZero (ws : List ℕ) (n : ℕ) : Type 0 where
+  pub third : ZeroFrom ws 3 4
+  pub last : ZeroFrom ws 6 crewStart
+  pub behind : ZeroFrom ws (crewStart + 4 * n) setsStart
 
 -- the standing roles that hold a user
 unfoldable pub userRoles : State → ℕ → ℕ

@@ -1,11 +1,10 @@
-// A record on its way: its candidates, its header and crew rows, then its index and its rows.
+// A record on its way: its header and crew rows, then its index and its rows.
 ghost use mathlib.Core.Path.{_≡_};
 ghost use mathlib.Core.List.{[], _∷_};
-ghost use Prim.Native.Nat.{ℕ, _+_, _*_, _≤_};
+ghost use Prim.Native.Nat.{ℕ, _*_, _≤_};
 ghost use lib.ListN.{length, getD};
 ghost use Rattle.sets_128.specs.Held.{set128};
 ghost use Rattle.sets.specs.Words.{word};
-ghost use Rattle.model.specs.Lists.{rowsAt};
 ghost use Rattle.model.specs.Candidates.{candidates};
 ghost use Rattle.model.specs.Record.{recordLength, crewStart, Limits};
 ghost use Rattle.model.specs.State.{State};
@@ -14,27 +13,13 @@ ghost use Rattle.indexes.specs.Index.{indexLength};
 ghost use Rattle.indexes.specs.Tables.{FillsFrom};
 ghost use Rattle.rows.specs.Linked.{Ready};
 ghost use Rattle.rows.specs.Partway.{WithoutRows};
-ghost use Rattle.records.specs.Records.{OnlyCandidates, MinesInto, Described};
+ghost use Rattle.records.specs.Records.{OnlyCandidates, Described};
 ghost use Rattle.tables.specs.Tables.{table128Length};
 use indexes::fill_index;
-use mining::Mined;
-use mining::mine;
 use rows::build_rows;
 use sets_128::Set128;
 use tables::CREW;
-use tables::PERMISSIONS;
-use tables::SETS;
 use tables::copy;
-
-// The candidates of the n rows that stand in `crew` from place `at` on, into a record of zeros.
-pub fn mine_record(rec: &mut [u64], crew: &[u64], at: usize, n: usize) -> Mined
-    requires { ⌜ length (now rec) ≡ recordLength ⌝ }
-    requires { ⌜ ((i : ℕ) → getD (now rec) i 0 ≡ 0) ⌝ }
-    requires { ⌜ at + 4 * n ≤ length (now crew) ⌝ }
-    ensures { λ r. ⌜ MinesInto (candidates (rowsAt n (now (crew .entry)) at)) (now (rec .exit)) r ⌝ }
-{
-    mine(crew, at, n, &mut rec[SETS..PERMISSIONS])
-}
 
 fn write_header(rec: &mut [u64], n: u64, m: u64, c: u64, standing: Set128)
     requires { ⌜ length (now rec) ≡ recordLength ⌝ }
@@ -50,23 +35,15 @@ fn write_header(rec: &mut [u64], n: u64, m: u64, c: u64, standing: Set128)
     rec[7] = 0;
 }
 
-// The header, and the n crew rows that stand in `crew` from place `at` on, for a record that has nothing but its candidates.
-pub fn begin_record(
-    rec: &mut [u64],
-    crew: &[u64],
-    at: usize,
-    n: usize,
-    m: u64,
-    c: usize,
-    standing: Set128,
-)
+// The header, and the n crew rows that `crew` begins with, for a record that has nothing but its candidates.
+pub fn begin_record(rec: &mut [u64], crew: &[u64], n: usize, m: u64, c: usize, standing: Set128)
     requires { ⌜ length (now rec) ≡ recordLength ⌝ }
-    requires { ⌜ at + 4 * n ≤ length (now crew) ⌝ }
+    requires { ⌜ 4 * n ≤ length (now crew) ⌝ }
     requires { ⌜ n ≤ 128 ⌝ }
-    ensures { λ r. ⌜ ((st : State) → Described st (now (crew .entry)) at n m c (set128 standing) → OnlyCandidates (now (rec .entry)) (candidates (st .rows)) → WithoutRows st (now (rec .exit))) ⌝ }
+    ensures { λ r. ⌜ ((st : State) → Described st (now (crew .entry)) n m c (set128 standing) → OnlyCandidates (now (rec .entry)) (candidates (st .rows)) → WithoutRows st (now (rec .exit))) ⌝ }
 {
     write_header(rec, n as u64, m, c as u64, standing);
-    copy(rec, CREW, &crew[at..at + 4 * n]);
+    copy(rec, CREW, &crew[0..4 * n]);
 }
 
 // The index, the rows and the immediate seniors, for a record that has all but these.

@@ -1,3 +1,4 @@
+// Whether each grant is covered, user by user.
 ghost use mathlib.Core.Path.{_≡_};
 ghost use mathlib.Core.List.{List};
 ghost use Prim.Native.Nat.{ℕ, _≤_, _<_};
@@ -12,6 +13,7 @@ ghost use Rattle.indexes.specs.Index.{indexLength, LowerRoles, Indexed};
 ghost use Rattle.indexes.specs.Tables.{Source, SourceOf};
 ghost use Rattle.records.specs.Records.{userRoles, eachGrantCovered};
 ghost use Rattle.tables.specs.Tables.{table256Length};
+use hierarchy::highest_item;
 use hierarchy::less256;
 use hierarchy::maximal_of;
 use indexes::LOWER;
@@ -26,12 +28,19 @@ use tables::STANDING;
 use tables::load128;
 use tables::load256;
 
-// Whether the standing roles of a user hold all of the user's row. The highest of them hold all that those below them do.
+// Whether the standing roles of a user hold all of the user's row. Where the row itself stands, it has the highest number of them, and nothing else is
+// asked. Otherwise those that lie below no other hold all that the rest do.
 fn user_covered(table: &[u64], index: &[u64], roles: Set128, row: Set256) -> bool
     requires { ⌜ length (now table) ≡ table256Length ⌝ }
     requires { ⌜ length (now index) ≡ indexLength ⌝ }
     ensures { λ r. ⌜ ((st : State) (crew : List ℕ) (at n c u : ℕ) → Source st crew at n (now (table .entry)) c → LowerRoles (rolesOf st) (now (index .entry)) → u < n → set256 row ≡ getD (st .rows) u 0 → set128 roles ≡ userRoles st u → r ≡ eachGrantCovered st u) ⌝ }
 {
+    if roles.is_empty() {
+        return row.is_empty();
+    }
+    if load256(table, 4 * highest_item(roles)).equals(row) {
+        return true;
+    }
     less256(table, row, maximal_of(&index[LOWER..ROLES], roles)).is_empty()
 }
 

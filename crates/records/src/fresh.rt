@@ -7,25 +7,28 @@ ghost use Rattle.model.specs.Candidates.{candidates};
 ghost use Rattle.model.specs.Hierarchy.{candidateCount};
 ghost use Rattle.model.specs.Record.{recordLength, built, Limits};
 ghost use Rattle.model.specs.State.{fresh, rolesOf};
-ghost use Rattle.records.specs.Records.{OnlyCandidates};
+ghost use Rattle.mining.specs.Mining.{Written};
 use crate::begin::begin_record;
 use crate::begin::complete_record;
 use indexes::INDEX_LENGTH;
 use sets_128::Set128;
+use tables::SETS;
+use tables::clear;
 use tables::copy;
 
-// Writes the record of a crew list, with all its candidates standing. It is built in `image`, which has the c candidates and nothing else yet.
-pub fn write_fresh(rec: &mut [u64], image: &mut [u64], crew: &[u64], n: usize, m: u64, c: usize)
+// Writes the record of a crew list, with all its candidates standing; `table` has the c candidates. Whatever the record held is cleared first.
+pub fn write_fresh(rec: &mut [u64], table: &[u64], crew: &[u64], n: usize, m: u64, c: usize)
     requires { ⌜ length (now rec) ≡ recordLength ⌝ }
     requires { ⌜ 4 * n ≤ length (now crew) ⌝ }
     requires { ⌜ Limits (fresh n m (rowsAt n (now crew) 0)) ⌝ }
     requires { ⌜ candidateCount (rolesOf (fresh n m (rowsAt n (now crew) 0))) ≡ c ⌝ }
-    requires { ⌜ OnlyCandidates (now image) (candidates (rowsAt n (now crew) 0)) ⌝ }
+    requires { ⌜ Written (now table) c (candidates (rowsAt n (now crew) 0)) ⌝ }
     ensures { λ r. ⌜ now (rec .exit) ≡ built (fresh n m (rowsAt n (now (crew .entry)) 0)) ⌝ }
 {
+    clear(rec);
+    copy(rec, SETS, table);
+    begin_record(rec, crew, n, m, c, Set128::below(c));
     let mut index = [0u64; INDEX_LENGTH];
     let mut seniors = [0u64; 256];
-    begin_record(image, crew, 0, n, m, c, Set128::below(c));
-    complete_record(image, &mut index, &mut seniors);
-    copy(rec, 0, image);
+    complete_record(rec, &mut index, &mut seniors);
 }

@@ -3,8 +3,8 @@ mod begin;
 mod check;
 mod cover;
 mod fresh;
+mod head;
 
-pub use begin::mine_record;
 pub use check::is_sound;
 pub use check::record_sound;
 pub use fresh::write_fresh;

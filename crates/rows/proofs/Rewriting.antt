@@ -29,7 +29,7 @@ use Rattle.hierarchy.specs.Tables.{Numbered, Narrow, immediateSeniors}
 use Rattle.indexes.specs.Index.{LowerRoles, RoleUsers}
 use Rattle.indexes.proofs.Sources.{numbered, narrow}
 use Rattle.rows.specs.Linked.{Turned, juniorsIn, Linked}
-use Rattle.rows.specs.Partway.{still, Partway, Target}
+use Rattle.rows.specs.Partway.{still, Headed, Partway, Target}
 use Rattle.rows.proofs.Regions.{still-other, still-none, region-holds, region-read}
 use Rattle.rows.proofs.Partway.{juniors-stored, permissions-stored, members-stored}
 use Rattle.rows.proofs.Linking.{linked-same, seniors-held}
@@ -37,46 +37,62 @@ use Rattle.rows.proofs.Linking.{linked-same, seniors-held}
 pub target-below : (st : State) (R : ℕ) (index : List ℕ) → Target st R index → R < 2 ^ candidateCount (rolesOf st)
 target-below st R index to = subst (λ (S : ℕ). S < 2 ^ candidateCount (rolesOf st)) (to .standing) (to .limits .standing-below)
 
-module _ (old : RoleRows) (st : State) (p t R : ℕ) (index ws : List ℕ) (to : Target st R index) where
+-- ---- one row as it is computed from what a record holds, whoever stores it or compares it
+
+module _ (st : State) (R : ℕ) (index ws : List ℕ) (to : Target st R index) where
   abbrev ρ : Roles
   ρ = rolesOf st
 
   below : R < 2 ^ candidateCount (rolesOf st)
   below = target-below st R index to
 
+  pub upper-computed : (i js ps : ℕ)
+      → ((ρ : Roles) → Numbered ρ → LowerRoles ρ index → R < 2 ^ candidateCount ρ → js ≡ immediateJuniors ρ R i)
+      → ((ρ : Roles) → Numbered ρ → Narrow ρ → HoldsSets 4 (candidateCount ρ) (permissionSet ρ) (take 512 (drop setsStart ws)) → R < 2 ^ candidateCount ρ → js ≡ immediateJuniors ρ R i → ps ≡ directPermissions ρ R i)
+      → Headed st ws → (js ≡ immediateJuniors (rolesOf st) (st .standing) i) × (ps ≡ directPermissions (rolesOf st) (st .standing) i)
+  upper-computed i js ps juniors permissions h =
+      let n = numbered st (to .limits) in
+      let w = narrow st (to .limits) in
+      let same = sym (to .standing) in
+      let ej = juniors ρ n (to .indexed .lower-roles) below in
+      let sets = region-holds 4 setsStart (candidateCount ρ) 512 (permissionSet ρ) ws refl (n .few)
+      (λ k l. lt-of-lt-of-le (w .inside k l) (pow-mono (w .fewPermissions))) (h .sets) in
+      let ep = permissions ρ n w sets below ej in
+      (ej ∙ ap (λ (S : ℕ). immediateJuniors ρ S i) same, ep ∙ ap (λ (S : ℕ). directPermissions ρ S i) same)
+
+  pub lower-computed : (j is ms : ℕ) (seniors : List ℕ) → j < 128 → is ≡ setAt 2 seniors (2 * j) → is < 2 ^ 128
+      → ((ρ : Roles) → Numbered ρ → Narrow ρ → RoleUsers ρ index → R < 2 ^ candidateCount ρ → is ≡ immediateSeniors ρ R j → ms ≡ directMembers ρ R j)
+      → Linked ws seniors → ((i : ℕ) → i < 128 → juniorsIn ws i ≡ immediateJuniors (rolesOf st) R i) → ms ≡ directMembers (rolesOf st) (st .standing) j
+  lower-computed j is ms seniors lj ei small members l held =
+      let n = numbered st (to .limits) in
+      let above = seniors-held ρ R (n .few) below ws held seniors j is l lj ei small in
+      members ρ n (narrow st (to .limits)) (to .indexed .role-users) below above ∙ ap (λ (S : ℕ). directMembers ρ S j) (sym (to .standing))
+
+module _ (old : RoleRows) (st : State) (p t R : ℕ) (index ws : List ℕ) (to : Target st R index) where
   pub upper-rewritten : (s i js ps : ℕ) (mid after : List ℕ) → i < 128
       → ((ρ : Roles) → Numbered ρ → LowerRoles ρ index → R < 2 ^ candidateCount ρ → js ≡ immediateJuniors ρ R i)
       → ((ρ : Roles) → Numbered ρ → Narrow ρ → HoldsSets 4 (candidateCount ρ) (permissionSet ρ) (take 512 (drop setsStart ws)) → R < 2 ^ candidateCount ρ → js ≡ immediateJuniors ρ R i → ps ≡ directPermissions ρ R i)
       → mid ≡ putAt ws (juniorsStart + 2 * i) (wordsOf 2 js) → after ≡ putAt mid (permissionsStart + 4 * i) (wordsOf 4 ps)
       → Partway old st s p t ws → Partway old st (s ∖ single i) (p ∖ single i) t after
   upper-rewritten s i js ps mid after li juniors permissions em ea q =
-      let n = numbered st (to .limits) in
-      let w = narrow st (to .limits) in
-      let same = sym (to .standing) in
-      let ej = juniors ρ n (to .indexed .lower-roles) below in
-      let sets = region-holds 4 setsStart (candidateCount ρ) 512 (permissionSet ρ) ws refl (n .few)
-      (λ k l. lt-of-lt-of-le (w .inside k l) (pow-mono (w .fewPermissions))) (q .headed .sets) in
-      let ep = permissions ρ n w sets below ej in
-      let first : Partway old st (s ∖ single i) p t mid = rw em (juniors-stored old st s p t i js ws li q (ej ∙ ap (λ (S : ℕ). immediateJuniors ρ S i) same)) in
-      rw ea (permissions-stored old st (s ∖ single i) p t i ps mid li first (ep ∙ ap (λ (S : ℕ). directPermissions ρ S i) same))
+      let e = upper-computed st R index ws to i js ps juniors permissions (q .headed) in
+      let first : Partway old st (s ∖ single i) p t mid = rw em (juniors-stored old st s p t i js ws li q (e .0)) in
+      rw ea (permissions-stored old st (s ∖ single i) p t i ps mid li first (e .1))
 
   -- once no role has its old juniors, the record holds those of the standing set
   pub now-juniors : Partway old st 0 p t ws → (i : ℕ) → i < 128 → juniorsIn ws i ≡ immediateJuniors (rolesOf st) R i
   now-juniors q i li =
-      let new = immediateJuniors ρ (st .standing) in
+      let new = immediateJuniors (rolesOf st) (st .standing) in
       region-read 2 juniorsStart i new ws li (juniors-small st (to .limits) i)
       (λ k j lk lj. q .juniors k j lk lj ∙ ap (λ (x : ℕ). word x j) (still-none (old .juniors) new k))
-      ∙ ap (λ (S : ℕ). immediateJuniors ρ S i) (to .standing)
+      ∙ ap (λ (S : ℕ). immediateJuniors (rolesOf st) S i) (to .standing)
 
   pub lower-rewritten : (j is ms : ℕ) (seniors after : List ℕ) → j < 128 → is ≡ setAt 2 seniors (2 * j) → is < 2 ^ 128
       → ((ρ : Roles) → Numbered ρ → Narrow ρ → RoleUsers ρ index → R < 2 ^ candidateCount ρ → is ≡ immediateSeniors ρ R j → ms ≡ directMembers ρ R j)
       → after ≡ putAt ws (membersStart + 2 * j) (wordsOf 2 ms)
       → Linked ws seniors → Partway old st 0 p t ws → Partway old st 0 p (t ∖ single j) after
   lower-rewritten j is ms seniors after lj ei small members ea l q =
-      let n = numbered st (to .limits) in
-      let above = seniors-held ρ R (n .few) below ws (now-juniors q) seniors j is l lj ei small in
-      let em = members ρ n (narrow st (to .limits)) (to .indexed .role-users) below above in
-      rw ea (members-stored old st 0 p t j ms ws lj q (em ∙ ap (λ (S : ℕ). directMembers ρ S j) (sym (to .standing))))
+      rw ea (members-stored old st 0 p t j ms ws lj q (lower-computed st R index ws to j is ms seniors lj ei small members l (now-juniors q)))
 
 -- ---- what is left of the juniors: entries that are old, or new, in both records
 

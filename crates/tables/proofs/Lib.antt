@@ -4,3 +4,4 @@ pub mod Parts
 pub mod Rows
 pub mod Halving
 pub mod Moving
+pub mod Clearing

@@ -20,3 +20,7 @@ HoldsSets w n f ws = (k : ℕ) → k < n → setAt w ws (w * k) ≡ f k
 -- the list ws with its first n entries so, and otherwise the list before
 abbrev pub Filled : ℕ → ℕ → (ℕ → ℕ) → List ℕ → List ℕ → Type 0
 Filled w n f before ws = HoldsSets w n f ws × ((i : ℕ) → w * n ≤ i → getD ws i 0 ≡ getD before i 0)
+
+-- the words from place `from` on and before place `to` are zero
+pub record ZeroFrom (ws : List ℕ) (from to : ℕ) : Type 0 where
+  pub each : (i : ℕ) → from ≤ i → i < to → getD ws i 0 ≡ 0

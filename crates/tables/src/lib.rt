@@ -3,7 +3,9 @@ mod growing;
 mod layout;
 
 ghost use mathlib.Core.Path.{_≡_};
-ghost use Prim.Native.Nat.{_+_, _≤_};
+ghost use mathlib.Core.Bool.{So};
+ghost use mathlib.Core.Logic.{_↔_};
+ghost use Prim.Native.Nat.{ℕ, _+_, _≤_};
 ghost use lib.Dec.{eqb};
 ghost use lib.ListN.{length, getD};
 ghost use Rattle.sets_128.specs.Held.{set128};
@@ -12,6 +14,7 @@ ghost use Rattle.sets.specs.Truth.{all};
 ghost use Rattle.model.specs.Lists.{setAt};
 ghost use Rattle.stores.specs.Stores.{putAt};
 ghost use Rattle.tables.specs.Stores.{wordsOf};
+ghost use Rattle.tables.specs.Tables.{ZeroFrom};
 pub use growing::Found;
 pub use growing::insert;
 pub use growing::search;
@@ -81,4 +84,30 @@ pub fn equal_at(ws: &[u64], at: usize, src: &[u64]) -> bool
         i += 1;
     }
     differing == 0
+}
+
+// Whether the words from place `from` on and before place `to` are zero, without a branch for each.
+pub fn zeros(ws: &[u64], from: usize, to: usize) -> bool
+    requires { ⌜ from ≤ to ⌝ }
+    requires { ⌜ to ≤ length (now ws) ⌝ }
+    ensures { λ r. ⌜ (So r ↔ ZeroFrom (now (ws .entry)) from to) ⌝ }
+{
+    let mut found = 0;
+    let mut i = from;
+    while i < to {
+        found |= ws[i];
+        i += 1;
+    }
+    found == 0
+}
+
+// Puts zero into every word.
+pub fn clear(ws: &mut [u64])
+    ensures { λ r. ⌜ ((i : ℕ) → getD (now (ws .exit)) i 0 ≡ 0) ⌝ }
+{
+    let mut i = 0;
+    while i < ws.len() {
+        ws[i] = 0;
+        i += 1;
+    }
 }

@@ -3,10 +3,10 @@
 use borrow.Author.Needs.{needs}
 use mathlib.Core.Path.{_≡_, refl, sym, _∙_, subst}
 use native.Mathlib.Omega.{arith}
-use Rattle.model.specs.Record.{recordLength}
 use Rattle.model.specs.Refusals.{_orElse_, lengthRefusal, limitsRefusal, crewRefusal}
 use Rattle.stores.proofs.Stores.{blank}
-use Rattle.records.specs.Records.{MinesInto}
+use Rattle.tables.specs.Tables.{table256Length}
+use Rattle.mining.specs.Mining.{Mines}
 use Rattle.call_mine.proofs.Mining.{lent-refused, lent-length, lent-size, too-many, mined-limits, mined-count, mined}
 use Rattle.call_mine.proofs.panel_mine.Statement.{statement}
 use Rattle.call_mine.proofs.panel_mine.Tie as tie
@@ -29,13 +29,13 @@ same-length c = search needs
 returns : tie.Need-returns
 returns c = lent-refused _ _ _ _ _ _ (c .refused .ensures) (c .before .if1 .taken) (c .before .before .lent-refusal .ensures)
 
-slice-aggregate-mine-record : tie.Need-slice-aggregate-mine-record
-slice-aggregate-mine-record c = search needs
+slice-aggregate-mine : tie.Need-slice-aggregate-mine
+slice-aggregate-mine c = search needs
 
-mine-record-requires : tie.Need-mine-record-requires
-mine-record-requires c κs =
+mine-requires : tie.Need-mine-requires
+mine-requires c κs =
     let size = lent-size _ _ _ _ (passes (c .before)) in
-    (search needs, (blank recordLength, omega arith))
+    (omega arith, search needs, blank table256Length)
 
 enum-known-c : tie.Need-enum-known-c
 enum-known-c c = search needs
@@ -51,7 +51,7 @@ same-length-2 c = search needs
 
 returns-2 : tie.Need-returns-2
 returns-2 c =
-    too-many _ _ _ _ (passes (c .before .before .before .before .before .before)) _ (c .refused2 .ensures) (subst (MinesInto _ _) (c .before .enum-told .given .1) (c .before .before .before .before .mine-record .ensures))
+    too-many _ _ _ _ (passes (c .before .before .before .before .before .before)) _ (c .refused2 .ensures) (subst (Mines _ _) (c .before .enum-told .given .1) (c .before .before .before .before .mine .ensures))
 
 slice-aggregate-write-fresh : tie.Need-slice-aggregate-write-fresh
 slice-aggregate-write-fresh c = search needs
@@ -60,16 +60,16 @@ write-fresh-requires : tie.Need-write-fresh-requires
 write-fresh-requires c κs =
     let z = passes (c .before .before .before .before .before .before .before .before) in
     let size = lent-size _ _ _ _ z in
-    let m = subst (MinesInto _ _) (c .before .before .before .c .given .1) (c .before .before .before .before .before .before .mine-record .ensures) in
-    (lent-length _ _ _ _ z, (omega arith, (mined-limits _ _ _ _ z _ (m .1) (m .2), (mined-count _ _ _ _ z _ (m .1) (m .2), m .0))))
+    let m = subst (Mines _ _) (c .before .before .before .c .given .1) (c .before .before .before .before .before .before .mine .ensures) in
+    (lent-length _ _ _ _ z, (omega arith, (mined-limits _ _ _ _ z _ (m .holds .count) (m .holds .frame .few), (mined-count _ _ _ _ z _ (m .holds .count) (m .holds .frame .few), m))))
 
 same-length-3 : tie.Need-same-length-3
 same-length-3 c = search needs
 
 returns-3 : tie.Need-returns-3
 returns-3 c =
-    let m = subst (MinesInto _ _) (c .before .before .before .before .before .before .before .c .given .1) (c .before .before .before .before .before .before .before .before .before .before .mine-record .ensures) in
-    mined _ _ _ _ (passes (c .before .before .before .before .before .before .before .before .before .before .before .before)) _ (m .1) (m .2) _ _ refl refl (c .before .before .before .write-fresh .ensures)
+    let m = subst (Mines _ _) (c .before .before .before .before .before .before .c .given .1) (c .before .before .before .before .before .before .before .before .before .mine .ensures) in
+    mined _ _ _ _ (passes (c .before .before .before .before .before .before .before .before .before .before .before)) _ (m .holds .count) (m .holds .frame .few) _ _ refl refl (c .before .before .write-fresh .ensures)
 
 pub panel-mine-spec : {M : Type 1} → statement M
 panel-mine-spec =
@@ -79,8 +79,8 @@ panel-mine-spec =
     refused-requires
     same-length
     returns
-    slice-aggregate-mine-record
-    mine-record-requires
+    slice-aggregate-mine
+    mine-requires
     enum-known-c
     enum-told
     refused-requires-2

@@ -1,7 +1,6 @@
 -- The header, then the rows.
 -- Assumes nothing.
 use borrow.Author.Needs.{needs}
-use mathlib.Core.Path.{refl}
 use Rattle.records.proofs.Beginning.{begun}
 use Rattle.records.proofs.begin.begin_record.Statement.{statement}
 use Rattle.records.proofs.begin.begin_record.Tie as tie
@@ -11,12 +10,6 @@ write-header-requires c κs = search needs
 
 mul-copy : tie.Need-mul-copy
 mul-copy c = search needs
-
-add-copy : tie.Need-add-copy
-add-copy c = search needs
-
-mul-copy-2 : tie.Need-mul-copy-2
-mul-copy-2 c = search needs
 
 sub-copy : tie.Need-sub-copy
 sub-copy c = search needs
@@ -34,11 +27,12 @@ same-length : tie.Need-same-length
 same-length c = search needs
 
 returns : tie.Need-returns
-returns c = λ st d o.
+returns c =
+    λ st d o.
     let copied = c .before .before in
     let headed = copied .before .before .before .before .before in
     rw (copied .copy .ensures, headed .write-header .ensures)
-    (begun st _ _ _ _ _ _ _ _ d o refl (search needs) (λ i. headed .before .before .shared-slice-known .given i .fits))
+    (begun st _ _ _ _ _ _ d o (search needs) (λ i. headed .before .before .shared-slice-known .given i .fits))
 
 pub begin-record-spec : {M : Type 1} → statement M
 begin-record-spec =
@@ -46,8 +40,6 @@ begin-record-spec =
     (tie.spec
     write-header-requires
     mul-copy
-    add-copy
-    mul-copy-2
     sub-copy
     part-copy-start
     part-copy-end

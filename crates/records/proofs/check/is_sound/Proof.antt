@@ -1,4 +1,4 @@
--- Each part is judged in turn; what is left is the comparison.
+-- Each part is judged in turn.
 -- Assumes nothing.
 use borrow.Author.Needs.{needs}
 use borrow.Author.Tests.{not-false}
@@ -8,10 +8,12 @@ use Prim.Native.Nat.{_+_, _*_, _≤_}
 use native.Mathlib.Omega.{arith}
 use lib.ListN.{length, getD}
 use Rattle.sets.proofs.Truth.{So-not}
-use Rattle.model.specs.Record.{recordLength, stateOf}
+use Rattle.model.specs.Record.{stateOf, Limits}
 use Rattle.stores.proofs.Stores.{blank}
-use Rattle.records.specs.Records.{MinesInto}
-use Rattle.records.proofs.Judging.{limited, unlimited, limited-users, too-many, too-high, counted, limits}
+use Rattle.tables.specs.Tables.{table256Length}
+use Rattle.mining.specs.Mining.{Mines}
+use Rattle.rows_check.proofs.Telling.{passed}
+use Rattle.records.proofs.Judging.{limited, unlimited, unheaded, limited-users, too-many, too-high, limits}
 use Rattle.records.proofs.check.is_sound.Statement.{statement}
 use Rattle.records.proofs.check.is_sound.Tie as tie
 
@@ -19,10 +21,10 @@ use Rattle.records.proofs.check.is_sound.Tie as tie
 abbrev start : tie.Else1 → tie.Start
 start c = c .before .before .before .before .before
 
-abbrev kept : tie.After-mine-record → tie.Else1
+abbrev kept : tie.After-mine → tie.Else1
 kept c = c .before .before .before
 
-abbrev mined : tie.After-c → tie.After-mine-record
+abbrev mined : tie.After-c → tie.After-mine
 mined c = c .before .before .before
 
 abbrev number : tie.After-is-subset → tie.After-c
@@ -31,12 +33,19 @@ number c = c .before .before .before .before
 abbrev limits-kept : tie.After-is-subset → tie.Else1
 limits-kept c = kept (mined (number c))
 
-abbrev tested : tie.After-matches-arg2 → tie.After-is-subset
-tested c = c .before .before .before .before
+abbrev tested : tie.After-is-headed → tie.After-is-subset
+tested c = c .before .before .before
 
 -- the limits are kept
 limited-at : (c : tie.Else1) → So (limited (start c .args .rec .now) (start c .pre .0))
 limited-at c = sym (c .before .within .ensures) ∙ not-false _ (c .if1 .left)
+
+limits-at : (c : tie.Else2) → Limits (stateOf (start (limits-kept (c .before)) .args .rec .now))
+limits-at c =
+    let test = c .before in
+    let w = subst (Mines _ _) (number test .c .given .1) (mined (number test) .mine .ensures) in
+    limits _ (start (limits-kept test) .pre .0) (limited-at (limits-kept test)) _ (w .holds .count) (w .holds .frame .few)
+    _ _ _ (test .before .before .load128 .ensures) (test .before .below .ensures) (test .is-subset .ensures) (c .if2 .left)
 
 within-requires : tie.Need-within-requires
 within-requires c κs = search needs
@@ -49,16 +58,16 @@ returns c =
 shared-slice-read-n : tie.Need-shared-slice-read-n
 shared-slice-read-n c = search needs
 
-slice-aggregate-mine-record : tie.Need-slice-aggregate-mine-record
-slice-aggregate-mine-record c = search needs
+slice-aggregate-mine : tie.Need-slice-aggregate-mine
+slice-aggregate-mine c = search needs
 
-mine-record-requires : tie.Need-mine-record-requires
-mine-record-requires c κs =
+mine-requires : tie.Need-mine-requires
+mine-requires c κs =
     let ws = start (c .before .before) .args .rec .now in
     let full = start (c .before .before) .pre .0 in
     let few = limited-users ws full (limited-at (c .before .before)) in
     let room : 8 + 4 * getD ws 0 0 ≤ length ws = omega arith in
-    (search needs, (blank recordLength, room))
+    (room, search needs, blank table256Length)
 
 enum-known-c : tie.Need-enum-known-c
 enum-known-c c = search needs
@@ -68,7 +77,7 @@ enum-told c = search needs
 
 returns-2 : tie.Need-returns-2
 returns-2 c =
-    let no = too-many _ (start (kept (c .before .before .before)) .pre .0) (subst (MinesInto _ _) (c .enum-told .given .1) (c .before .before .before .mine-record .ensures)) in
+    let no = too-many _ (start (kept (c .before .before .before)) .pre .0) (subst (Mines _ _) (c .enum-told .given .1) (c .before .before .before .mine .ensures)) in
     (no, λ s. absurd (So-not (sym no) s))
 
 load128-requires : tie.Need-load128-requires
@@ -83,25 +92,32 @@ is-subset-requires c κs = search needs
 returns-3 : tie.Need-returns-3
 returns-3 c =
     let test = c .before in
-    let m = subst (MinesInto _ _) (number test .c .given .1) (mined (number test) .mine-record .ensures) in
-    let no = too-high _ (start (limits-kept test) .pre .0) (limited-at (limits-kept test)) _ (m .1) (m .2)
+    let w = subst (Mines _ _) (number test .c .given .1) (mined (number test) .mine .ensures) in
+    let no = too-high _ (start (limits-kept test) .pre .0) (limited-at (limits-kept test)) _ (w .holds .count) (w .holds .frame .few)
     _ _ _ (test .before .before .load128 .ensures) (test .before .below .ensures) (test .is-subset .ensures) (c .if2 .taken) in
     (no, λ s. absurd (So-not (sym no) s))
 
-slice-aggregate-matches : tie.Need-slice-aggregate-matches
-slice-aggregate-matches c = search needs
+slice-aggregate-is-headed : tie.Need-slice-aggregate-is-headed
+slice-aggregate-is-headed c = search needs
+
+is-headed-requires : tie.Need-is-headed-requires
+unfolding stateOf
+is-headed-requires c κs =
+    let test = c .before .before in
+    let full = start (limits-kept test) .pre .0 in
+    (full, (limited-users (start (limits-kept test) .args .rec .now) full (limited-at (limits-kept test)), subst (Mines _ _) (number test .c .given .1) (mined (number test) .mine .ensures)))
+
+returns-4 : tie.Need-returns-4
+returns-4 c =
+    let no = unheaded _ (start (limits-kept (tested (c .before))) .pre .0) _ (c .before .is-headed .ensures) (c .if3 .taken) in
+    (no, λ s. absurd (So-not (sym no) s))
 
 matches-requires : tie.Need-matches-requires
-unfolding stateOf
 matches-requires c κs =
-    let test = tested c in
-    let ws = start (limits-kept test) .args .rec .now in
+    let judged = c .before .before .before in
+    let test = tested judged in
     let given = start (limits-kept test) .pre in
-    let ok = limited-at (limits-kept test) in
-    let m = subst (MinesInto _ _) (number test .c .given .1) (mined (number test) .mine-record .ensures) in
-    let lim = limits ws (given .0) ok _ (m .1) (m .2)
-    _ _ _ (test .before .before .load128 .ensures) (test .before .below .ensures) (test .is-subset .ensures) (c .before .before .before .if2 .left) in
-    (given .0, (lim, (counted ws (given .0) ok _ (m .1) (m .2), (m .0, (search needs, (search needs, given .1 .1 .1))))))
+    (given .0, (limits-at (judged .before .before), (passed _ (judged .is-headed .ensures) (c .before .before .if3 .left), (search needs, (search needs, given .1 .1 .1)))))
 
 same-length : tie.Need-same-length
 same-length c = search needs
@@ -109,8 +125,8 @@ same-length c = search needs
 same-length-2 : tie.Need-same-length-2
 same-length-2 c = search needs
 
-returns-4 : tie.Need-returns-4
-returns-4 c = search needs
+returns-5 : tie.Need-returns-5
+returns-5 c = search needs
 
 pub is-sound-spec : {M : Type 1} → statement M
 is-sound-spec =
@@ -119,8 +135,8 @@ is-sound-spec =
     within-requires
     returns
     shared-slice-read-n
-    slice-aggregate-mine-record
-    mine-record-requires
+    slice-aggregate-mine
+    mine-requires
     enum-known-c
     enum-told
     returns-2
@@ -128,8 +144,10 @@ is-sound-spec =
     below-requires
     is-subset-requires
     returns-3
-    slice-aggregate-matches
+    slice-aggregate-is-headed
+    is-headed-requires
+    returns-4
     matches-requires
     same-length
     same-length-2
-    returns-4)
+    returns-5)
