@@ -1,16 +1,18 @@
-# `make run` shows roles, `make test` is the gate. For those who link the library: `make example`, `make host-test`,
-# `make bench`. A target that lacks a tool says which, in one line, and fails.
+# `make run` shows roles, `make test` is the gate. For those who link the library: `make install`, `make example`,
+# `make host-test`, `make bench`. A target that lacks a tool says which, in one line, and fails.
 need = command -v $(1) >/dev/null 2>&1 || { echo "make $@: $(1) is missing: $(2)" >&2; exit 1; }
 
 RATTLE = install the Rattle toolchain and put its bin folder on the PATH
 PYTHON = install Python 3
 GCC = install GCC
+GXX = install GCC for C++
 CARGO = install Rust with cargo
+PKG_CONFIG = install pkg-config
 
 LIBRARY = target/staticlib/libpanel.a
 HOST = --offline --quiet --manifest-path host/Cargo.toml
 
-.PHONY: test checks test-model test-vectors test-header test-trust run vectors example host-test bench
+.PHONY: test checks test-model test-vectors test-header test-trust run vectors example install uninstall host-test bench
 
 test:
 	@$(call need,rt,$(RATTLE))
@@ -59,11 +61,35 @@ example:
 	gcc -std=c99 -O2 -Wall -Wextra -pedantic -Werror -Iinclude examples/panel.c $(LIBRARY) -o target/example
 	./target/example
 
+# make install [PREFIX=path] [DESTDIR=path]: header, archive and pkg-config file. DESTDIR goes before every path that is
+# written to, and into none that is written down.
+PREFIX = /usr/local
+FOLDER = $(abspath $(PREFIX))
+INTO = $(DESTDIR)$(FOLDER)
+one_path = test $(words $(PREFIX)) = 1 || { echo "make $@: PREFIX has to be one path without blanks" >&2; exit 1; }
+
+install:
+	@$(one_path)
+	@$(call need,rt,$(RATTLE))
+	rt staticlib panel
+	install -d "$(INTO)/include" "$(INTO)/lib/pkgconfig"
+	install -m 644 include/rolepanel.h "$(INTO)/include/rolepanel.h"
+	install -m 644 $(LIBRARY) "$(INTO)/lib/librolepanel.a"
+	sed 's|@PREFIX@|$(FOLDER)|' rolepanel.pc.in > target/rolepanel.pc
+	install -m 644 target/rolepanel.pc "$(INTO)/lib/pkgconfig/rolepanel.pc"
+
+uninstall:
+	@$(one_path)
+	rm -f "$(INTO)/include/rolepanel.h" "$(INTO)/lib/librolepanel.a" "$(INTO)/lib/pkgconfig/rolepanel.pc"
+
 host-test:
 	@$(call need,rt,$(RATTLE))
 	@$(call need,cargo,$(CARGO))
 	@$(call need,gcc,$(GCC))
-	rt staticlib panel
+	@$(call need,g++,$(GXX))
+	@$(call need,pkg-config,$(PKG_CONFIG))
+	MAKE="$(MAKE)" sh tests/install.sh
+	cargo test $(HOST) --test budget -- --nocapture
 	cargo test $(HOST) --test compare
 
 bench:
