@@ -89,7 +89,7 @@ host-test:
 	@$(call need,g++,$(GXX))
 	@$(call need,pkg-config,$(PKG_CONFIG))
 	MAKE="$(MAKE)" sh tests/install.sh
-	cargo test $(HOST) --test budget -- --nocapture
+	cargo test $(HOST) --test budget
 	cargo test $(HOST) --test compare
 
 bench:
