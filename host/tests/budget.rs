@@ -91,8 +91,8 @@ fn lists() -> Vec<Crew> {
         crews::antichain(127, 256),
         crews::full_table(),
         crews::full_table_own(),
-        crews::random_rows(rng, 128, 256, 1),
-        crews::tasks(rng, 128, 256, 6, 4),
+        crews::random_rows(rng, 7, 256, 50),
+        crews::tasks(rng, 128, 256, 4, 4),
         crews::nested_groups(rng, 24, 256, 3),
         crews::crew(256, &[[0; 4]; 128]),
     ]
