@@ -7,7 +7,7 @@ PYTHON = install Python 3
 GCC = install GCC
 GXX = install GCC for C++
 CARGO = install Rust with cargo
-PKG_CONFIG = install pkg-config
+PKGCONFIG = install pkg-config
 
 LIBRARY = target/staticlib/libpanel.a
 HOST = --offline --quiet --manifest-path host/Cargo.toml
@@ -87,8 +87,8 @@ host-test:
 	@$(call need,cargo,$(CARGO))
 	@$(call need,gcc,$(GCC))
 	@$(call need,g++,$(GXX))
-	@$(call need,pkg-config,$(PKG_CONFIG))
-	MAKE="$(MAKE)" sh tests/install.sh
+	@$(call need,pkg-config,$(PKGCONFIG))
+	sh tests/install.sh
 	cargo test $(HOST) --test budget
 	cargo test $(HOST) --test compare
 

@@ -83,9 +83,9 @@
 
 /*
  * The memory budget, in bytes; `make host-test` fails where more is needed. PANEL_CODE_BYTES is for the archive's code
- * and constants; it has no data that is written. A call needs the stack below, counted from its caller's frame, and
- * any call PANEL_STACK_ANY: measured on the worst lists, with glibc's memcpy and memset. An interrupt that runs on the
- * same stack comes on top.
+ * and constants; it has no data that is written. PANEL_STACK_MINE is what panel_mine needs of stack below its caller's
+ * frame, and so on for each call; PANEL_STACK_ANY is the largest of these. They are measured, on the worst lists and
+ * with glibc's memcpy and memset; an interrupt that runs on the same stack comes on top.
  */
 #define PANEL_CODE_BYTES 45056
 #define PANEL_STACK_ANY 51200

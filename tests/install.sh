@@ -12,9 +12,9 @@ fail() {
     exit 1
 }
 
-# make_it TARGET: into the folder, for a place that it is not in
+# make_it TARGET: in the folder, for a place that is not the folder
 make_it() {
-    "${MAKE:-make}" "$1" DESTDIR="$folder" PREFIX=/opt/rolepanel > "$folder.log" 2>&1 || fail "make $1 failed: see $folder.log"
+    make "$1" DESTDIR="$folder" PREFIX=/opt/rolepanel || fail "make $1 failed"
 }
 
 # files_are LIST: all files below the folder
