@@ -65,22 +65,25 @@ example:
 # written to, and into none that is written down.
 PREFIX = /usr/local
 FOLDER = $(abspath $(PREFIX))
-INTO = $(DESTDIR)$(FOLDER)
+INCLUDE = $(DESTDIR)$(FOLDER)/include
+LIB = $(DESTDIR)$(FOLDER)/lib
 one_path = test $(words $(PREFIX)) = 1 || { echo "make $@: PREFIX has to be one path without blanks" >&2; exit 1; }
+writable = install -d "$(1)" 2>/dev/null && test -w "$(1)" || { echo "make $@: can't write to $(1)" >&2; exit 1; }
 
 install:
 	@$(one_path)
 	@$(call need,rt,$(RATTLE))
+	@$(call writable,$(INCLUDE))
+	@$(call writable,$(LIB)/pkgconfig)
 	rt staticlib panel
-	install -d "$(INTO)/include" "$(INTO)/lib/pkgconfig"
-	install -m 644 include/rolepanel.h "$(INTO)/include/rolepanel.h"
-	install -m 644 $(LIBRARY) "$(INTO)/lib/librolepanel.a"
+	install -m 644 include/rolepanel.h "$(INCLUDE)/rolepanel.h"
+	install -m 644 $(LIBRARY) "$(LIB)/librolepanel.a"
 	sed 's|@PREFIX@|$(FOLDER)|' rolepanel.pc.in > target/rolepanel.pc
-	install -m 644 target/rolepanel.pc "$(INTO)/lib/pkgconfig/rolepanel.pc"
+	install -m 644 target/rolepanel.pc "$(LIB)/pkgconfig/rolepanel.pc"
 
 uninstall:
 	@$(one_path)
-	rm -f "$(INTO)/include/rolepanel.h" "$(INTO)/lib/librolepanel.a" "$(INTO)/lib/pkgconfig/rolepanel.pc"
+	rm -f "$(INCLUDE)/rolepanel.h" "$(LIB)/librolepanel.a" "$(LIB)/pkgconfig/rolepanel.pc"
 
 host-test:
 	@$(call need,rt,$(RATTLE))
