@@ -119,9 +119,9 @@ def sourced():
     yield "PANEL_VERSION", '"%s"' % only(r"(?m)^Version: (.*)$", INSTALLED), INSTALLED
 
 
-def measured(calls):
-    """The constants of the memory budget: one for the code, and one for each call."""
-    return ["PANEL_CODE_BYTES"] + [name.upper().replace("PANEL_", "PANEL_STACK_", 1) for name in calls]
+def stack_names(calls):
+    """The constants of the calls' stacks: PANEL_STACK_MINE of panel_mine."""
+    return [name.upper().replace("PANEL_", "PANEL_STACK_", 1) for name in calls]
 
 
 def typed(piece):
@@ -166,18 +166,18 @@ def differences(crate, header):
                     yield "%s has %s, in the header %s" % (name, told(a), told(b))
 
 
-def constant_differences(ours, budget, theirs):
-    """Those of the constants: each that the header has is compared, or is one of the budget."""
+def constant_differences(ours, stacks, theirs):
+    """Those of the constants: each that the header has is compared, or is one of the memory budget."""
     for name, value, where in ours:
         if theirs.get(name) != value:
             yield "%s is %s by %s, in the header %s" % (name, value, where, theirs.get(name, "it is missing"))
-    for name in budget:
-        if not theirs.get(name, "").isdigit():
-            yield "%s is no number of bytes in the header" % name
-    stacks = [int(theirs[name]) for name in budget[1:] if theirs.get(name, "").isdigit()]
-    if theirs.get("PANEL_STACK_ANY") != str(max(stacks, default=0)):
+    budget = ["PANEL_CODE_BYTES", "PANEL_STACK_ANY", *stacks]
+    missing = [name for name in budget if not theirs.get(name, "").isdigit()]
+    for name in missing:
+        yield "%s is no number of bytes in the header" % name
+    if not missing and int(theirs["PANEL_STACK_ANY"]) != max(int(theirs[name]) for name in stacks):
         yield "PANEL_STACK_ANY is not the largest of the calls' stacks"
-    for name in theirs.keys() - {name for name, _, _ in ours} - set(budget) - {"PANEL_STACK_ANY"}:
+    for name in theirs.keys() - {name for name, _, _ in ours} - set(budget):
         yield "%s is in the header, and nothing here gives its value" % name
 
 
@@ -226,7 +226,7 @@ def main():
     crate = exported(sources)
     *header, constants, rest = declared()
     faults = list(differences(crate, header))
-    faults += constant_differences(list(sourced()), measured(crate[0]), constants)
+    faults += constant_differences(list(sourced()), stack_names(crate[0]), constants)
     faults += frame_differences(rest)
     for compiler, words, _ in COMPILERS if not faults else ():
         faults += compiled(compiler, words, "include/" + HEADER.name, None)

@@ -22,10 +22,14 @@ fn main() {
     exit(!faults.is_empty() as i32);
 }
 
+/// The names that the header gives a value, each with it.
+fn constants() -> impl Iterator<Item = (&'static str, &'static str)> {
+    HEADER.lines().filter_map(|line| line.strip_prefix("#define ")?.split_once(' '))
+}
+
 /// The number that the header gives a name.
 fn stated(name: &str) -> usize {
-    let line = HEADER.lines().find(|line| line.split(' ').nth(1) == Some(name));
-    let number = line.and_then(|line| line.split(' ').nth(2)?.parse().ok());
+    let number = constants().find(|constant| constant.0 == name).and_then(|constant| constant.1.parse().ok());
     number.unwrap_or_else(|| panic!("the header has no number {name}"))
 }
 
@@ -155,7 +159,7 @@ fn reading(lists: &[Crew]) -> usize {
 fn stacks(faults: &mut Vec<String>) {
     let lists = lists();
     let records = records(&lists);
-    for (name, used) in [
+    let measured = [
         ("PANEL_STACK_MINE", mining(&lists)),
         ("PANEL_STACK_STRIKE", on_each(&records, 129, proved::strike)),
         ("PANEL_STACK_RESTORE", on_each(&records, 129, proved::restore)),
@@ -164,8 +168,14 @@ fn stacks(faults: &mut Vec<String>) {
         ("PANEL_STACK_QUALITY", on_each(&records, 1, |rec, _| proved::quality(rec, ONES))),
         ("PANEL_STACK_MAY", on_each(&records, 129, |rec, u| proved::may(rec, u, 2 * u))),
         ("PANEL_STACK_READ_CREW", reading(&lists)),
-    ] {
+    ];
+    for (name, used) in measured {
         hold(name, used, faults);
+    }
+    for (name, _) in constants().filter(|(name, _)| name.starts_with("PANEL_STACK_") && *name != "PANEL_STACK_ANY") {
+        if !measured.iter().any(|(other, _)| *other == name) {
+            faults.push(format!("{name} is in the header and not measured"));
+        }
     }
 }
 
