@@ -94,7 +94,7 @@ def exported(sources):
     return calls, {name: fields for name, fields in structs.items() if name in answers}
 
 
-def only(pattern, file):
+def first(pattern, file):
     """What the pattern's brackets have in a file, the first time that it is met."""
     match = re.search(pattern, (ROOT / file).read_text(encoding="utf-8"))
     if not match:
@@ -105,18 +105,18 @@ def only(pattern, file):
 def sourced():
     """The constants that the sources give, as (name in the header, value, where)."""
     for name, (file, constant) in CONSTANTS.items():
-        yield name, only(r"const %s: (?:usize|u64) = (\d+);" % constant, file), "%s of %s" % (constant, file)
+        yield name, first(r"const %s: (?:usize|u64) = (\d+);" % constant, file), "%s of %s" % (constant, file)
     for constant, value in re.findall(r"const (\w+): u64 = (\d+);", (ROOT / REFUSALS).read_text(encoding="utf-8")):
         yield "PANEL_" + constant, value, "%s of %s" % (constant, REFUSALS)
-    yield "PANEL_ACCEPTED", only(r"Accepted ws call = .* ≡ (\d+)\n", CLAIM), "Accepted of " + CLAIM
-    words = [word.strip() for word in only(r"headerWord st i =\s+getD\s+\((.*)\)\s+i 0\n", RECORD).split("∷")]
+    yield "PANEL_ACCEPTED", first(r"Accepted ws call = .* ≡ (\d+)\n", CLAIM), "Accepted of " + CLAIM
+    words = [word.strip() for word in first(r"headerWord st i =\s+getD\s+\((.*)\)\s+i 0\n", RECORD).split("∷")]
     for name, word in NUMBERS.items():
         yield name, str(words.index(word)) if word in words else "nowhere", "headerWord of " + RECORD
-    newest = only(r"(?m)^## (\d+\.\d+\.\d+)$", CHANGES)
+    newest = first(r"(?m)^## (\d+\.\d+\.\d+)$", CHANGES)
     for part, number in zip(("MAJOR", "MINOR", "PATCH"), newest.split(".")):
         yield "PANEL_VERSION_" + part, number, "the newest entry of " + CHANGES
     yield "PANEL_VERSION", '"%s"' % newest, "the newest entry of " + CHANGES
-    yield "PANEL_VERSION", '"%s"' % only(r"(?m)^Version: (.*)$", INSTALLED), INSTALLED
+    yield "PANEL_VERSION", '"%s"' % first(r"(?m)^Version: (.*)$", INSTALLED), INSTALLED
 
 
 def stack_names(calls):
