@@ -103,8 +103,8 @@
  * role k stands. i is below 128 in a set of users or roles, below 256 in one of permissions. Shifting the first word
  * by i would be undefined from i = 64 on.
  */
-static inline int panel_has(const uint64_t *set, uint64_t i) {
-    return (int)(set[i / 64] >> (i % 64) & 1);
+static inline uint64_t panel_has(const uint64_t *set, uint64_t i) {
+    return set[i / 64] >> (i % 64) & 1;
 }
 
 #ifdef __cplusplus

@@ -43,8 +43,8 @@ FRAME = """
 #define ROLEPANEL_H
 #include <stddef.h>
 #include <stdint.h>
-static inline int panel_has(const uint64_t *set, uint64_t i) {
-return (int)(set[i / 64] >> (i % 64) & 1);
+static inline uint64_t panel_has(const uint64_t *set, uint64_t i) {
+return set[i / 64] >> (i % 64) & 1;
 }
 #ifdef __cplusplus
 extern "C" {
