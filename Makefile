@@ -1,19 +1,23 @@
-# `make run` shows roles, `make test` is the gate. For those who link the library: `make example`, `make host-test`,
-# `make bench`. A target that lacks a tool says which, in one line, and fails.
+# `make run` shows roles, `make test` is the gate. For those who link the library: `make install`, `make example`,
+# `make host-test`, `make bench`. A target that lacks a tool says which, in one line, and fails.
 need = command -v $(1) >/dev/null 2>&1 || { echo "make $@: $(1) is missing: $(2)" >&2; exit 1; }
 
 RATTLE = install the Rattle toolchain and put its bin folder on the PATH
 PYTHON = install Python 3
 GCC = install GCC
+GXX = install GCC for C++
 CARGO = install Rust with cargo
+PKGCONFIG = install pkg-config
 
 # each check of the prover is one thread; four at a time keep two cores busy where they differ in length
 PROVE = TMPDIR=$$(sh tools/scratch.sh) RT_JOBS=4 rt
 
+# the archive is made of crates that are proved already: by itself it would prove them one after the other
+ARCHIVE = $(PROVE) check panel && $(PROVE) staticlib panel
 LIBRARY = target/staticlib/libpanel.a
 HOST = --offline --quiet --manifest-path host/Cargo.toml
 
-.PHONY: test checks test-model test-vectors test-header test-trust run vectors example host-test bench
+.PHONY: test checks test-model test-vectors test-header test-trust run vectors example install uninstall host-test bench
 
 test:
 	@$(call need,rt,$(RATTLE))
@@ -58,20 +62,47 @@ vectors:
 example:
 	@$(call need,rt,$(RATTLE))
 	@$(call need,gcc,$(GCC))
-	$(PROVE) staticlib panel
+	$(ARCHIVE)
 	gcc -std=c99 -O2 -Wall -Wextra -pedantic -Werror -Iinclude examples/panel.c $(LIBRARY) -o target/example
 	./target/example
+
+# make install [PREFIX=path] [DESTDIR=path]: header, archive and pkg-config file. DESTDIR goes before every path that is
+# written to, and into none that is written down.
+PREFIX = /usr/local
+FOLDER = $(abspath $(PREFIX))
+INCLUDE = $(DESTDIR)$(FOLDER)/include
+LIB = $(DESTDIR)$(FOLDER)/lib
+one_path = test $(words $(PREFIX)) = 1 || { echo "make $@: PREFIX has to be one path without blanks" >&2; exit 1; }
+writable = install -d "$(1)" 2>/dev/null && test -w "$(1)" || { echo "make $@: can't write to $(1)" >&2; exit 1; }
+
+install:
+	@$(one_path)
+	@$(call need,rt,$(RATTLE))
+	@$(call writable,$(INCLUDE))
+	@$(call writable,$(LIB)/pkgconfig)
+	$(ARCHIVE)
+	install -m 644 include/rolepanel.h "$(INCLUDE)/rolepanel.h"
+	install -m 644 $(LIBRARY) "$(LIB)/librolepanel.a"
+	sed 's|@PREFIX@|$(FOLDER)|' rolepanel.pc.in > target/rolepanel.pc
+	install -m 644 target/rolepanel.pc "$(LIB)/pkgconfig/rolepanel.pc"
+
+uninstall:
+	@$(one_path)
+	rm -f "$(INCLUDE)/rolepanel.h" "$(LIB)/librolepanel.a" "$(LIB)/pkgconfig/rolepanel.pc"
 
 host-test:
 	@$(call need,rt,$(RATTLE))
 	@$(call need,cargo,$(CARGO))
 	@$(call need,gcc,$(GCC))
-	$(PROVE) staticlib panel
+	@$(call need,g++,$(GXX))
+	@$(call need,pkg-config,$(PKGCONFIG))
+	sh tests/install.sh
+	cargo test $(HOST) --test budget
 	cargo test $(HOST) --test compare
 
 bench:
 	@$(call need,rt,$(RATTLE))
 	@$(call need,cargo,$(CARGO))
 	@$(call need,gcc,$(GCC))
-	$(PROVE) staticlib panel
+	$(ARCHIVE)
 	cargo run $(HOST) --release --bin bench

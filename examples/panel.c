@@ -1,9 +1,12 @@
-/* The worked list of document 01 through the C calls: three users with rows 3, 6, 7 on three permissions. */
+/*
+ * The worked list of document 01 through the C calls: three users with rows 3, 6, 7 on three permissions. What it
+ * prints is in panel.out, from the model in tests/.
+ */
 #include <inttypes.h>
 #include <stdio.h>
 #include <stdlib.h>
 
-#include "panel.h"
+#include <rolepanel.h>
 
 static uint64_t record[PANEL_RECORD_WORDS];
 static uint64_t rows[PANEL_ROWS_WORDS];
@@ -21,8 +24,8 @@ static void print_record(const char *when) {
     uint64_t k;
     expect("panel_quality", q.code);
     printf("%s: quality %" PRIu64 "\n", when, q.quality);
-    for (k = 0; k < record[2]; k++) {
-        if (record[4] >> k & 1) {
+    for (k = 0; k < record[PANEL_AT_C]; k++) {
+        if (panel_has(&record[PANEL_AT_STANDING], k)) {
             printf("  role %" PRIu64 ": permissions %" PRIx64 ", direct permissions %" PRIx64 ", direct members %" PRIx64
                    ", immediate juniors %" PRIx64 "\n",
                    k, record[PANEL_AT_SETS + 4 * k], record[PANEL_AT_PERMISSIONS + 4 * k],
@@ -33,9 +36,9 @@ static void print_record(const char *when) {
 
 static void print_rights(void) {
     uint64_t u, p;
-    for (u = 0; u < record[0]; u++) {
+    for (u = 0; u < record[PANEL_AT_N]; u++) {
         printf("user %" PRIu64 " may:", u);
-        for (p = 0; p < record[1]; p++) {
+        for (p = 0; p < record[PANEL_AT_M]; p++) {
             struct panel_may_answer may = panel_may(record, PANEL_RECORD_WORDS, u, p);
             expect("panel_may", may.code);
             if (may.allowed) {

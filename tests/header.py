@@ -1,8 +1,10 @@
-"""Holds include/panel.h to the calls that the crate panel exports; every difference is one line, and the exit is 1.
+"""Holds include/rolepanel.h to the sources; every difference is one line, and the exit is 1.
 
-Compared, by reading both: the calls, their parameters (name, kind, order), their answers and the fields of these, the
-lengths and places of the record. Then a C and a C++ compiler are asked, without running anything: the header alone
-has to be clean, and each call has to have the type, each answer the size and the places, that the crate gives them.
+Compared, by reading both: the calls, their parameters (name, kind, order), their answers and the fields of these, and
+every constant; what the header has beside these has to be FRAME. Then a C and a C++ compiler are asked, without running
+anything: the header alone has to be clean, and each call has to have the type, each answer the size and the places,
+that the crate gives them. The memory budget is measured by `make host-test` (host/tests/budget.rs), so only that it is
+there for each call is seen to here.
 """
 import re
 import shutil
@@ -11,7 +13,7 @@ import sys
 from pathlib import Path
 
 ROOT = Path(__file__).resolve().parent.parent
-HEADER = ROOT / "include" / "panel.h"
+HEADER = ROOT / "include" / "rolepanel.h"
 COMPILERS = (("gcc", ["-x", "c", "-std=c11"], "install GCC"), ("g++", ["-x", "c++", "-std=c++11"], "install GCC for C++"))
 STRICT = ["-Wall", "-Wextra", "-pedantic", "-Werror", "-fsyntax-only"]
 
@@ -21,16 +23,37 @@ SLICES = {"&[u64]": ["const uint64_t *", "size_t"], "&mut [u64]": ["uint64_t *",
           "&[u8]": ["const uint8_t *", "size_t"], "&mut [u8]": ["uint8_t *", "size_t"]}
 
 # the header's names for constants of the crates: file, name
-CONSTANTS = {"PANEL_RECORD_WORDS": ("tables/src/layout.rt", "LENGTH"), "PANEL_AT_CREW": ("tables/src/layout.rt", "CREW"),
-             "PANEL_AT_SETS": ("tables/src/layout.rt", "SETS"),
-             "PANEL_AT_PERMISSIONS": ("tables/src/layout.rt", "PERMISSIONS"),
-             "PANEL_AT_MEMBERS": ("tables/src/layout.rt", "MEMBERS"),
-             "PANEL_AT_JUNIORS": ("tables/src/layout.rt", "JUNIORS"),
-             "PANEL_ROWS_WORDS": ("text_crew/src/lib.rt", "BUFFER"),
-             "PANEL_TEXT_BYTES": ("text_crew/src/lib.rt", "LONGEST")}
-REFUSALS = "refusals/src/lib.rt"
-CONSTANTS.update({"PANEL_" + name: (REFUSALS, "REFUSED_" + name)
-                  for name in ("LENGTH", "LIMITS", "CREW", "CANDIDATES", "UNSOUND", "NUMBER", "STANDING", "BARE", "RANGE", "TEXT")})
+LAYOUT, READER, REFUSALS = "crates/tables/src/layout.rt", "crates/text_crew/src/lib.rt", "crates/refusals/src/lib.rt"
+CONSTANTS = {"PANEL_RECORD_WORDS": (LAYOUT, "LENGTH"), "PANEL_AT_STANDING": (LAYOUT, "STANDING"),
+             "PANEL_AT_CREW": (LAYOUT, "CREW"), "PANEL_AT_SETS": (LAYOUT, "SETS"),
+             "PANEL_AT_PERMISSIONS": (LAYOUT, "PERMISSIONS"), "PANEL_AT_MEMBERS": (LAYOUT, "MEMBERS"),
+             "PANEL_AT_JUNIORS": (LAYOUT, "JUNIORS"), "PANEL_ROWS_WORDS": (READER, "BUFFER"),
+             "PANEL_TEXT_BYTES": (READER, "LONGEST")}
+
+# where no constant of the code has a name for it, the definition gives it: acceptance, and the words before the sets
+CLAIM, RECORD = "crates/model/specs/Claim.antt", "crates/model/specs/Record.antt"
+NUMBERS = {"PANEL_AT_N": "st .users", "PANEL_AT_M": "st .permissions", "PANEL_AT_C": "candidateCount (rolesOf st)"}
+
+# who else says the version
+CHANGES, INSTALLED = "CHANGELOG.md", "rolepanel.pc.in"
+
+# the header without calls, answers, constants and comments
+FRAME = """
+#ifndef ROLEPANEL_H
+#define ROLEPANEL_H
+#include <stddef.h>
+#include <stdint.h>
+static inline uint64_t panel_has(const uint64_t *set, uint64_t i) {
+return set[i / 64] >> (i % 64) & 1;
+}
+#ifdef __cplusplus
+extern "C" {
+#endif
+#ifdef __cplusplus
+}
+#endif
+#endif
+"""
 
 
 def c_name(struct):
@@ -71,6 +94,36 @@ def exported(sources):
     return calls, {name: fields for name, fields in structs.items() if name in answers}
 
 
+def first(pattern, file):
+    """What the pattern's brackets have in a file, the first time that it is met."""
+    match = re.search(pattern, (ROOT / file).read_text(encoding="utf-8"))
+    if not match:
+        sys.exit("tests/header.py: %s has no %s" % (file, pattern))
+    return match[1]
+
+
+def sourced():
+    """The constants that the sources give, as (name in the header, value, where)."""
+    for name, (file, constant) in CONSTANTS.items():
+        yield name, first(r"const %s: (?:usize|u64) = (\d+);" % constant, file), "%s of %s" % (constant, file)
+    for constant, value in re.findall(r"const (\w+): u64 = (\d+);", (ROOT / REFUSALS).read_text(encoding="utf-8")):
+        yield "PANEL_" + constant, value, "%s of %s" % (constant, REFUSALS)
+    yield "PANEL_ACCEPTED", first(r"Accepted ws call = .* ≡ (\d+)\n", CLAIM), "Accepted of " + CLAIM
+    words = [word.strip() for word in first(r"headerWord st i =\s+getD\s+\((.*)\)\s+i 0\n", RECORD).split("∷")]
+    for name, word in NUMBERS.items():
+        yield name, str(words.index(word)) if word in words else "nowhere", "headerWord of " + RECORD
+    newest = first(r"(?m)^## (\d+\.\d+\.\d+)$", CHANGES)
+    for part, number in zip(("MAJOR", "MINOR", "PATCH"), newest.split(".")):
+        yield "PANEL_VERSION_" + part, number, "the newest entry of " + CHANGES
+    yield "PANEL_VERSION", '"%s"' % newest, "the newest entry of " + CHANGES
+    yield "PANEL_VERSION", '"%s"' % first(r"(?m)^Version: (.*)$", INSTALLED), INSTALLED
+
+
+def stack_names(calls):
+    """The constants of the calls' stacks: PANEL_STACK_MINE of panel_mine."""
+    return [name.upper().replace("PANEL_", "PANEL_STACK_", 1) for name in calls]
+
+
 def typed(piece):
     """(type, name) of a C parameter or field."""
     kind, star, name = re.fullmatch(r"\s*((?:const )?\w+)\s*(\*?)\s*(\w+)\s*", piece).groups()
@@ -78,14 +131,20 @@ def typed(piece):
 
 
 def declared():
-    """The same two of the header, and its constants."""
-    text = re.sub(r"/\*.*?\*/", "", HEADER.read_text(encoding="utf-8"), flags=re.S)
+    """Calls and structs of the header, as those exported; its constants, {name: value}; and the lines of the rest."""
+    rest = re.sub(r"/\*.*?\*/", "", HEADER.read_text(encoding="utf-8"), flags=re.S)
+
+    def taken(pattern):
+        nonlocal rest
+        found, rest = re.findall(pattern, rest), re.sub(pattern, "", rest)
+        return found
+
     calls = {name: (answer, [typed(piece) for piece in body.split(",")])
-             for answer, name, body in re.findall(r"struct (\w+) (\w+)\s*\((.*?)\)\s*;", text, re.S)}
+             for answer, name, body in taken(r"struct (\w+) (\w+)\(([^()]*)\);")}
     structs = {name: [typed(piece) for piece in body.split(";") if piece.strip()]
-               for name, body in re.findall(r"struct (\w+)\s*{(.*?)}\s*;", text, re.S)}
-    constants = {name: int(value) for name, value in re.findall(r"^#define (\w+) (\d+)\s*$", text, re.M)}
-    return calls, structs, constants
+               for name, body in taken(r"struct (\w+) {([^{}]*)};")}
+    constants = dict(taken(r'(?m)^#define (\w+) (\d+|"[^"\n]*") *$'))
+    return calls, structs, constants, [line.strip() for line in rest.splitlines() if line.strip()]
 
 
 def told(typed_names):
@@ -105,20 +164,34 @@ def differences(crate, header):
                 a, b = (ours[name][1], theirs[name][1]) if kind == "call" else (ours[name], theirs[name])
                 if a != b:
                     yield "%s has %s, in the header %s" % (name, told(a), told(b))
-    for name, (file, constant) in CONSTANTS.items():
-        source = (ROOT / "crates" / file).read_text(encoding="utf-8")
-        value = int(re.search(r"const %s: (?:usize|u64) = (\d+);" % constant, source)[1])
-        if header[2].get(name) != value:
-            yield "%s of %s is %d, in the header %s is %s" % (constant, file, value, name, header[2].get(name))
-    for constant in re.findall(r"const (\w+): u64", (ROOT / "crates" / REFUSALS).read_text(encoding="utf-8")):
-        if (REFUSALS, constant) not in CONSTANTS.values():
-            yield "%s of %s is not in the header" % (constant, REFUSALS)
+
+
+def constant_differences(ours, stacks, theirs):
+    """Those of the constants: each that the header has is compared, or is one of the memory budget."""
+    for name, value, where in ours:
+        if theirs.get(name) != value:
+            yield "%s is %s by %s, in the header %s" % (name, value, where, theirs.get(name, "it is missing"))
+    budget = ["PANEL_CODE_BYTES", "PANEL_STACK_ANY", *stacks]
+    missing = [name for name in budget if not theirs.get(name, "").isdigit()]
+    for name in missing:
+        yield "%s is no number of bytes in the header" % name
+    if not missing and int(theirs["PANEL_STACK_ANY"]) != max(int(theirs[name]) for name in stacks):
+        yield "PANEL_STACK_ANY is not the largest of the calls' stacks"
+    for name in theirs.keys() - {name for name, _, _ in ours} - set(budget):
+        yield "%s is in the header, and nothing here gives its value" % name
+
+
+def frame_differences(lines):
+    frame = FRAME.split("\n")[1:-1]
+    if lines != frame:
+        at = next((i for i, (ours, theirs) in enumerate(zip(frame, lines)) if ours != theirs), min(len(frame), len(lines)))
+        yield "the header has a line that is compared with nothing, or lacks one: %s" % (lines[at:] + frame[at:])[0]
 
 
 def demanded(calls, structs):
     """A source that a compiler takes only if the header gives the calls and answers these types, sizes and places."""
     demand = "PANEL_CHECK(%s, %s);"
-    lines = ['#include "panel.h"', "#ifdef __cplusplus",
+    lines = ['#include "%s"' % HEADER.name, "#ifdef __cplusplus",
              "#define PANEL_CHECK(what, name) static_assert(what, name)", "#else",
              "#define PANEL_CHECK(what, name) _Static_assert(what, name)", "#endif"]
     for name, fields in structs.items():
@@ -150,16 +223,19 @@ def main():
         if shutil.which(compiler) is None:
             sys.exit("tests/header.py: %s is missing: %s" % (compiler, remedy))
     sources = [source for name in ("panel", "call_*", "text_crew") for source in sorted((ROOT / "crates").glob(name + "/src/*.rt"))]
-    crate, header = exported(sources), declared()
+    crate = exported(sources)
+    *header, constants, rest = declared()
     faults = list(differences(crate, header))
+    faults += constant_differences(list(sourced()), stack_names(crate[0]), constants)
+    faults += frame_differences(rest)
     for compiler, words, _ in COMPILERS if not faults else ():
-        faults += compiled(compiler, words, "include/panel.h", None)
+        faults += compiled(compiler, words, "include/" + HEADER.name, None)
         faults += compiled(compiler, words, "the calls' types", demanded(*crate))
     for fault in faults:
         print("tests/header.py: " + fault, file=sys.stderr)
     if faults:
         sys.exit(1)
-    print("header: %d calls and %d answers as exported" % (len(crate[0]), len(crate[1])))
+    print("header: %d calls and %d answers as exported, %d constants" % (len(crate[0]), len(crate[1]), len(constants)))
 
 
 main()

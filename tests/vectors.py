@@ -1,4 +1,5 @@
-"""Writes every stdin, data and stdout file of the test programs. The same files come out each time.
+"""Writes every stdin, data and stdout file of the test programs, and what the example in C prints. The same files come
+out each time.
 
 `python3 tests/vectors.py` writes them all; `python3 tests/vectors.py --check` makes them again in memory and fails,
 naming the file, on the first that differs. A new test program is one function below, with its crate's name on it.
@@ -8,6 +9,7 @@ import sys
 from pathlib import Path
 
 import crews
+import example
 import guards
 import model
 import worked
@@ -28,7 +30,7 @@ def target(crate):
 
 def generate():
     """All files, as {path from the root: bytes}."""
-    files = {}
+    files = {Path("examples/panel.out"): example.output()}
     for crate, function in TARGETS.items():
         for name, content in function(random.Random("vectors of " + function.__name__)).items():
             files[Path("crates") / crate / name] = content

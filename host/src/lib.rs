@@ -1,6 +1,6 @@
 //! The role panel from Rust, twice: `proved` is a safe wrapper over the proved library, `plain` the same calls written
-//! for speed without proofs. Both have the same functions and answers; `include/panel.h` says what each call promises.
-//! `crews` makes lists for the tests and the benchmark.
+//! for speed without proofs. Both have the same functions and answers; `include/rolepanel.h` says what each call
+//! promises. `crews` makes lists for the tests and the benchmark.
 
 pub mod crews;
 pub mod plain;

@@ -1,5 +1,5 @@
 /*
- * The role panel, for C and C++. Link target/staticlib/libpanel.a (`rt staticlib panel`).
+ * The role panel, for C and C++. Link librolepanel.a: docs/LINKING.md says how, and what each refusal asks of whom.
  *
  * Each call answers a struct by value. Its first field, code, is 0 where the call is accepted, and otherwise the
  * number of the refusal; a refusal returns zeros beside its number and leaves every lent buffer as it was lent.
@@ -15,30 +15,42 @@
  * A length that the call does not expect is refused, not read past. The library has no state of its own: calls on
  * different buffers may run at the same time.
  *
- * Users u run from 0 to n - 1, permissions p from 0 to m - 1, candidate roles k from 0 to c - 1; n is 1 to 128, m is
- * 1 to 256, c is at most 128. A set has item i as bit i mod 64 of its word i / 64, bit 0 lowest.
+ * The archive is for x86-64 (ELF, System V calling convention). From outside it needs memcpy and memset, and nothing
+ * else.
  *
- * The record has PANEL_RECORD_WORDS words; unused words and bits are zero:
- *   0: n, 1: m, 2: c; 3, 6 and 7: zero; 4 and 5: the set of standing roles
+ * Users u run from 0 to n - 1, permissions p from 0 to m - 1, candidate roles k from 0 to c - 1; n is 1 to 128, m is
+ * 1 to 256, c is at most 128. A set has item i as bit i mod 64 of its word i / 64, bit 0 lowest; panel_has tests one.
+ *
+ * The record has PANEL_RECORD_WORDS words. It may be copied, stored and lent again. Its words have the machine's byte
+ * order, so a stored record has each word's lowest byte first; who reads it on a machine that has the highest first
+ * turns each word round. Its parts, where unused words and bits are zero:
+ *   PANEL_AT_N: n; PANEL_AT_M: m; PANEL_AT_C: c, 1 word each
+ *   PANEL_AT_STANDING: the set of standing roles, 2 words
  *   PANEL_AT_CREW + 4u: crew row of user u, 4 words
  *   PANEL_AT_SETS + 4k: permission set of role k, 4 words
  *   PANEL_AT_PERMISSIONS + 4k: direct permissions of k, 4 words
  *   PANEL_AT_MEMBERS + 2k: direct members of k, 2 words
  *   PANEL_AT_JUNIORS + 2k: immediate juniors of k, 2 words
- * It may be copied, stored and lent again. It is sound when its header and crew rows keep the limits, its candidates
- * are those mined from its crew rows, its last three parts are the building of its standing roles, each permission
- * in a crew row is covered by a standing role, and everything else is zero. Every call that is accepted leaves it so.
+ * It is sound when its header and crew rows keep the limits, its candidates are those mined from its crew rows, its
+ * last three parts are the building of its standing roles, each permission in a crew row is covered by a standing
+ * role, and everything else is zero. Every call that is accepted leaves it so.
  *
  * After an accepted panel_mine any list of strikes, restorations, eliminations and reviews on that record, refused ones
  * included, leaves the standing roles and gives the answers of the customer's plain machine, since each call is proved
  * to be one step of it. Then everyone is authorised for exactly what the crew list grants, and every word is what
  * building afresh gives: the customer's condition 3, crates/model/specs/Claim.antt, `Condition3`.
  */
-#ifndef PANEL_H
-#define PANEL_H
+#ifndef ROLEPANEL_H
+#define ROLEPANEL_H
 
 #include <stddef.h>
 #include <stdint.h>
+
+/* CHANGELOG.md says what each version brought, and what a caller has to do about it. */
+#define PANEL_VERSION "1.0.0"
+#define PANEL_VERSION_MAJOR 1
+#define PANEL_VERSION_MINOR 0
+#define PANEL_VERSION_PATCH 0
 
 /* Lengths: the record and the reader's buffer in words, the longest crew text in bytes. */
 #define PANEL_RECORD_WORDS 2056
@@ -46,6 +58,10 @@
 #define PANEL_TEXT_BYTES 16384
 
 /* Where the parts of a record start. */
+#define PANEL_AT_N 0
+#define PANEL_AT_M 1
+#define PANEL_AT_C 2
+#define PANEL_AT_STANDING 4
 #define PANEL_AT_CREW 8
 #define PANEL_AT_SETS 520
 #define PANEL_AT_PERMISSIONS 1032
@@ -54,16 +70,42 @@
 
 /* The numbers that code can be. */
 #define PANEL_ACCEPTED 0
-#define PANEL_LENGTH 1     /* the record's length is not 2,056 words */
-#define PANEL_LIMITS 2     /* n or m is outside its limits */
-#define PANEL_CREW 3       /* crew words not 4n (the reader: buffer not 512 words), or a bit at m or above */
-#define PANEL_CANDIDATES 4 /* more than 128 candidates */
-#define PANEL_UNSOUND 5    /* the record is not sound */
-#define PANEL_NUMBER 6     /* u, p or k is not below n, m or c */
-#define PANEL_STANDING 7   /* strike of an absent role, or restoring one that stands */
-#define PANEL_BARE 8       /* the role can't be struck: a grant would be left bare */
-#define PANEL_RANGE 9      /* a weight or the tolerance is outside its range */
-#define PANEL_TEXT 10      /* the text breaks its form, more bytes follow, or it is over 16,384 bytes */
+#define PANEL_REFUSED_LENGTH 1     /* the record's length is not 2,056 words */
+#define PANEL_REFUSED_LIMITS 2     /* n or m is outside its limits */
+#define PANEL_REFUSED_CREW 3       /* crew words not 4n (the reader: buffer not 512 words), or a bit at m or above */
+#define PANEL_REFUSED_CANDIDATES 4 /* more than 128 candidates */
+#define PANEL_REFUSED_UNSOUND 5    /* the record is not sound */
+#define PANEL_REFUSED_NUMBER 6     /* u, p or k is not below n, m or c */
+#define PANEL_REFUSED_STANDING 7   /* strike of an absent role, or restoring one that stands */
+#define PANEL_REFUSED_BARE 8       /* the role can't be struck: a grant would be left bare */
+#define PANEL_REFUSED_RANGE 9      /* a weight or the tolerance is outside its range */
+#define PANEL_REFUSED_TEXT 10      /* the text breaks its form, more bytes follow, or it is over 16,384 bytes */
+
+/*
+ * The memory budget, in bytes; `make host-test` fails where more is needed. PANEL_CODE_BYTES is for the archive's code
+ * and constants; it has no data that is written. PANEL_STACK_MINE is what panel_mine needs of stack below its caller's
+ * frame, and so on for each call; PANEL_STACK_ANY is the largest of these. They are measured, on the worst lists and
+ * with glibc's memcpy and memset; an interrupt that runs on the same stack comes on top.
+ */
+#define PANEL_CODE_BYTES 45056
+#define PANEL_STACK_ANY 51200
+#define PANEL_STACK_MINE 35840
+#define PANEL_STACK_STRIKE 35840
+#define PANEL_STACK_RESTORE 35840
+#define PANEL_STACK_ELIMINATE 51200
+#define PANEL_STACK_REVIEW 35840
+#define PANEL_STACK_QUALITY 35840
+#define PANEL_STACK_MAY 35840
+#define PANEL_STACK_READ_CREW 5120
+
+/*
+ * Whether item i is in the set that starts at this word, as 1 or 0: panel_has(&rec[PANEL_AT_STANDING], k) says whether
+ * role k stands. i is below 128 in a set of users or roles, below 256 in one of permissions. Shifting the first word
+ * by i would be undefined from i = 64 on.
+ */
+static inline uint64_t panel_has(const uint64_t *set, uint64_t i) {
+    return set[i / 64] >> (i % 64) & 1;
+}
 
 #ifdef __cplusplus
 extern "C" {
