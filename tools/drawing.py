@@ -24,7 +24,8 @@ def drawing(building, names):
     rows = cut_levels(levels)
     routes = lay_lanes(rows, seniors)
     x, y = settle(rows, routes), heights(rows, routes)
-    width, height = max(x.values(), default=LABEL) + (BOX + GAP) / 2, y[-1] + MARGIN
+    width = max((at + (wide(place) + GAP) / 2 for place, at in x.items()), default=LABEL)
+    height = y[-1] + MARGIN
     parts = bands(levels, y, width) + [link(route, x, y) for route in routes]
     parts += [box(building, names, place, x[place], y[place.row]) for row in rows for place in row if not place.lane]
     return ('<svg viewBox="0 0 %d %d" width="%d" height="%d" role="group" aria-label="The hierarchy: seniors above, juniors below">\n%s\n</svg>'
