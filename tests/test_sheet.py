@@ -146,10 +146,6 @@ def roles_text(s):
     return ", ".join("role %d" % k for k in M.items(s)) or "none"
 
 
-def sign_of(direct, whole, p):
-    return "direct" if direct >> p & 1 else "inherited" if whole >> p & 1 else ""
-
-
 # ---- a page held to its case ------------------------------------------------------------------------------------
 
 def check_page(name, case, page):
@@ -188,29 +184,22 @@ def check_counts(name, case, root):
     check(name + ": quality and counts", shown, expected)
 
 
-def check_grid(name, case, table, direct, whole, every):
-    """Each cell has the sign of its permission, under its action and beside its axis; a cell that is left out is of no right."""
+def check_grid(name, case, table, direct, whole, axes):
+    """A line for each of these axes, and in it each permission with its sign; in a column each, under the actions' names."""
     head, *lines = table.all("tr")
-    columns = min(8, case.m)
-    check(name + " actions", [e.text() for e in head.all("th")], [case.name("action", i) for i in range(columns)])
-    seen, wrong = set(), []
-    for line in lines:
-        axis, *cells = [e for e in line.parts if isinstance(e, Element)]
-        for i, cell in enumerate(cells):
-            if "data-permission" not in cell.attributes:
-                wrong += [(axis.text(), i)] if cell.text() or (len(seen) and max(seen) + 1 < case.m and i == 0) else []
-                continue
-            p = int(cell["data-permission"])
-            seen.add(p)
-            sign = sign_of(direct, whole, p)
-            if (SIGNS.get(cell.text()), cell.attributes.get("class", ""), axis.text(), i) != (sign, sign, case.name("axis", p // 8), p % 8):
-                wrong.append((p, cell.text(), axis.text(), i))
-        if len(cells) != columns or axis["scope"] != "row":
-            wrong.append(axis.text())
-    check(name + " cells", wrong, [])
-    check(name + " no right left out", {p for p in range(case.m) if p not in seen and whole >> p & 1}, set())
-    if every:
-        check(name + " whole", seen, set(range(case.m)))
+    columns = range(min(8, case.m))
+    check(name + " actions", [e.text() for e in head.all("th")], [case.name("action", i) for i in columns])
+    got = [(line.parts[0].text(), [(cell.attributes.get("data-permission"), SIGNS.get(cell.text(), "?"), cell.attributes.get("class", ""))
+                                   for cell in line.parts[1:]]) for line in lines]
+    check(name + " cells", got, [(case.name("axis", a), [cell_of(case.m, direct, whole, 8 * a + i) for i in columns]) for a in axes])
+
+
+def cell_of(m, direct, whole, p):
+    """A cell's permission, sign and class; the last axis may lack permissions."""
+    if p >= m:
+        return None, "", "no"
+    sign = "direct" if direct >> p & 1 else "inherited" if whole >> p & 1 else ""
+    return str(p), sign, sign
 
 
 def check_roles(name, case, section):
@@ -229,7 +218,7 @@ def check_roles(name, case, section):
         further = M.less(case.crew.below[k] & case.standing, case.juniors[k])
         words = roles_text(case.juniors[k]) + ("; further down " + roles_text(further) if further else "")
         check(at + " below", (below.set("data-juniors"), below.set("data-further"), below.text()), (case.juniors[k], further, words))
-        check_grid(at, case, card.one("table"), case.direct[k], case.crew.sets[k], False)
+        check_grid(at, case, card.one("table"), case.direct[k], case.crew.sets[k], sorted({p // 8 for p in M.items(case.crew.sets[k])}))
         check_verdict(at, case, card, k)
 
 
@@ -260,7 +249,7 @@ def check_persons(name, case, section):
         own = 0
         for k in M.items(case.own[u]):
             own |= case.direct[k]
-        check_grid(at, case, card.one("table"), own, case.rows[u], True)
+        check_grid(at, case, card.one("table"), own, case.rows[u], range((case.m + 7) // 8))
 
 
 def check_rights(name, case, section):
@@ -441,8 +430,8 @@ def check_changes(name, case, old, section):
         check("%s: %s" % (name, word), [e.text() for e in lines], [
             "role %d: direct members: %s; roles below: %s; rights: %s"
             % (k, state.persons(state.members[k]), roles_text(state.juniors[k]), state.rights(case.crew.sets[k])) for k in M.items(roles)])
-    got = {int(e["data-role"]): [(part["data-change"], part.text().split(": ", 1)[1] if "links" not in part.text() else part.text().split("to: ")[1])
-                                 for part in e.all("li", "data-change")] for e in section.all("li", "data-role")}
+    got = {int(e["data-role"]): [(part["data-change"], part.text().split(": ", 1)[1]) for part in e.all("li", "data-change")]
+           for e in section.all("li", "data-role")}
     both = M.items(old.standing & case.standing)
     check(name + ": altered", got, {k: role_changes(case, old, k) for k in both if role_changes(case, old, k)})
     counts = [[e.text() for e in line.parts] for line in section.one("table").one("tbody").all("tr")]
@@ -476,9 +465,9 @@ def refusals(desk):
     good, text = case.listing(), case.crew_text()
     desk.put(text, names_text(case.names))
     desk.refused("refused", "no roles: refused with 4: the crew list gives more than 128", "refused,4\n")
-    desk.refused("a foreign listing", "not a listing of this crew: line 1: the quality is 97 and should be 98", good.replace(",98\n", ",97\n"))
+    desk.refused("a foreign listing", "not a listing of this crew: line 1: quality 97 should be 98", good.replace(",98\n", ",97\n"))
     desk.old.write_text(Case(3, 3, [3, 6, 7]).listing(), encoding="ascii")
-    desk.refused("an OLD of another crew", "old.txt: not a listing of this crew", good, desk.old)
+    desk.refused("an OLD of another crew", "the earlier listing: not a listing of this crew", good, desk.old)
     desk.names.write_bytes(b"person,3,\xff\n")
     desk.refused("names not in UTF-8", "it is not UTF-8", good)
     ran = subprocess.run([sys.executable, ROOT / "tools/sheet.py", desk.crew, desk.crew], input=b"", capture_output=True, check=False)
@@ -496,7 +485,7 @@ def unreadable(desk):
     desk.unreadable("a foreign letter", "can't read what the lister printed", good.replace("roles", "rôles"))
     desk.unreadable("no such OLD", "nowhere.txt", good, desk.old.with_name("nowhere.txt"))
     desk.old.write_text("refused,4\n", encoding="ascii")
-    desk.unreadable("a refused OLD", "old.txt: no roles: refused with 4", good, desk.old)
+    desk.unreadable("a refused OLD", "the earlier listing: no roles: refused with 4", good, desk.old)
     for name, names in (("number", "person,x,Al\n"), ("name", "person,3\n"), ("kind", "persn,3,Al\n"), ("empty line", "person,3,Al\n\n")):
         desk.put(text, names)
         desk.unreadable("names: " + name, "a.names: ", good)
@@ -538,11 +527,11 @@ def foreign_listings():
     for name, listing, words in (
             ("a role left out", head + "".join(lines[1:4] + lines[5:]), "not a listing of this crew"),
             ("a role twice", "".join(lines[:4] + lines[3:4] + lines[5:]), "a role twice"),
-            ("two lines swapped", "".join(lines[:3] + lines[4:2:-1] + lines[5:]), "the number is 9 and should be 5"),
+            ("two lines swapped", "".join(lines[:3] + lines[4:2:-1] + lines[5:]), "line 4: number 9 should be 5"),
             ("a role too high", good.replace("\n24,", "\n25,"), "the crew gives 25 candidates"),
-            ("a digit too many", good.replace("\n24,", "\n24,0"), "line 15: the permissions"),
+            ("a digit too many", good.replace("\n24,", "\n24,0"), "line 15: permissions 0ff"),
             ("no last end", good[:-1], "byte 10"), ("CR", good.replace("\n", "\r\n"), "byte 10"), ("a line more", good + "\n", "can't read"),
-            ("quality", good.replace(",98\n", ",97\n"), "line 1: the quality is 97 and should be 98"),
+            ("quality", good.replace(",98\n", ",97\n"), "line 1: quality 97 should be 98"),
             ("another crew", Case(*M.lacking_one(6)).listing(), "not a listing of this crew"),
             ("bare", Case(case.n, case.m, case.rows, M.less(case.standing, 1 << 20), case.names).listing(), "no role gives flying supervisor the right to flying harness: limits")):
         check("foreign: " + name, words in (judged(listing) or "") or judged(listing))

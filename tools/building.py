@@ -159,7 +159,7 @@ def read_listing(crew, names, printed):
 def difference(fields, expected):
     """The first field that differs, of a role's line or of the head."""
     words = FIELDS if len(expected) == len(FIELDS) else ("first word", "number of roles", "quality")
-    return next("the %s is %s and should be %s" % parts for parts in zip(words, fields, expected) if parts[1] != parts[2])
+    return next("%s %s should be %s" % parts for parts in zip(words, fields, expected) if parts[1] != parts[2])
 
 
 def foreign(words):

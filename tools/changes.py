@@ -4,15 +4,18 @@ Both are of the same candidates, so a role is the same role in both where its nu
 are then the same too, and what can change is which of them are direct, and its links.
 """
 
+SAME = "<p>What each person may do is the same before and now, since both listings are of this crew. Roles and the ways to the rights changed.</p>"
+
 
 def changes(page, old):
+    """What changed since the earlier listing, whose building is old."""
     new = page.building
     gone = [k for k in old.roles if k not in new.sets]
     come = [k for k in new.roles if k not in old.sets]
     if not gone and not come:  # the building follows from the roles that stand
         return '<p data-changes="0"><strong>Nothing changed</strong> since the earlier listing: the same roles stand, with the same members, rights and links.</p>'
     altered = [item for item in (role_changes(page, old, k) for k in new.roles if k in old.sets) if item]
-    return "\n".join(['<div data-changes="%d">' % (len(gone) + len(come)), counted(old, new),
+    return "\n".join(['<div data-changes="%d">' % (len(gone) + len(come)), SAME, counted(old, new),
                       listed("Roles gone", [whole_role(page, old, k, "gone") for k in gone]),
                       listed("Roles come", [whole_role(page, new, k, "come") for k in come]),
                       listed("Roles that stay, with changes", altered), "</div>"])
@@ -40,7 +43,7 @@ def role_changes(page, old, k):
     parts = [part_changes(getattr(old, part)[k], getattr(page.building, part)[k], part, show, ceased, began) for part, show, ceased, began in (
         ("direct", page.rights, "rights that were direct, now inherited", "rights that were inherited, now direct"),
         ("members", page.persons, "persons who were direct members, now by inheritance", "persons who were members by inheritance, now direct"),
-        ("juniors", page.roles, "links gone, to", "links come, to"))]
+        ("juniors", page.roles, "links gone", "links come"))]
     return '<li data-role="%d"><strong>%s</strong><ul>%s</ul></li>' % (k, page.role(k), "".join(parts)) if any(parts) else ""
 
 

@@ -35,9 +35,6 @@ FRAME = """<!DOCTYPE html>
 </html>
 """
 
-LEGEND = ('<p class="legend"><b class="direct">%s</b> direct: the role itself gives the right. <b class="inherited">%s</b> inherited: '
-          'a role below it gives the right. An empty field: no right.</p>' % (DIRECT, INHERITED))
-
 
 class Page:
     """What all parts of the page are made from; names are escaped here, once."""
@@ -67,12 +64,12 @@ def make_page(crew_name, building, names, old):
     """The whole page; old is the building of an earlier listing, or None."""
     page = Page(building, names)
     title = "Roles of the crew in " + escape(crew_name)
-    parts = [("changes", "What changed", changes(page, old))] if old else []
+    parts = [("changes", "What changed since the earlier listing", changes(page, old))] if old else []
     parts += [("strikes", "Which roles could be struck now", strikes(page)),
               ("rights", "Who may do what, and through which role", who_may(page)),
               ("hierarchy", "The roles in levels", hierarchy(page, names)),
-              ("roles", "Role by role", LEGEND + cards(map(role_card, [page] * len(building.roles), building.roles))),
-              ("persons", "Person by person", LEGEND + cards(map(person_card, [page] * page.crew.n, range(page.crew.n))))]
+              ("roles", "Role by role", legend("the role") + cards(role_card(page, k) for k in building.roles)),
+              ("persons", "Person by person", legend("a direct role of the person") + cards(person_card(page, u) for u in range(page.crew.n)))]
     links = " ".join('<a href="#%s">%s</a>' % part[:2] for part in parts)
     sections = "\n".join('<section id="%s">\n<h2>%s</h2>\n%s\n</section>' % part for part in parts)
     return FRAME % {"title": title, "style": STYLE.read_text(encoding="utf-8"), "sections": sections,
@@ -93,6 +90,11 @@ def summary(page):
 
 def cards(made):
     return '<div class="cards">\n%s\n</div>' % "\n".join(made)
+
+
+def legend(role):
+    return ('<p class="legend"><b class="direct">%s</b> direct: %s gives the right itself. <b class="inherited">%s</b> inherited: '
+            'a role below it gives the right. An empty field: no right.</p>\n' % (DIRECT, role, INHERITED))
 
 
 # ---- strikes ----------------------------------------------------------------------------------------------------
@@ -157,7 +159,7 @@ def permission_row(page, p):
 def hierarchy(page, names):
     said = ("<p>A line leads from a role down to one from which it inherits rights; its members hold that role too. "
             "A dashed box could be struck now.</p>")
-    return said + '<div class="drawing" tabindex="0">%s</div>' % drawing(page.building, names)
+    return said + '<div class="drawing" role="region" aria-label="drawing" tabindex="0">%s</div>' % drawing(page.building, names)
 
 
 def grid(page, whose, caption, direct, whole, shown):
@@ -192,6 +194,7 @@ def role_card(page, k):
     by = ["%s (%s)" % (page.person(u), page.roles(building.own[u] & building.above[k])) for u in items(inherited)]
     shown = [a for a in axes(page.crew.m) if s >> a * ACTIONS & (1 << ACTIONS) - 1]
     rest = len(axes(page.crew.m)) - len(shown)
+    others = "axis" if rest == 1 else "%d axes" % rest
     return "\n".join([
         '<article class="card" id="role-%d" data-role="%d"><h3>Role %d</h3>' % (k, k, k),
         verdict(page, k),
@@ -199,7 +202,7 @@ def role_card(page, k):
                ("Members by inheritance", ' data-inherited="%s"' % numbers(inherited), ", ".join(by) or "none"),
                ("Roles below", ' data-juniors="%s" data-further="%s"' % (numbers(building.juniors[k]), numbers(further)), below)]),
         grid(page, 'data-role="%d"' % k, "%d rights, %d of them direct" % (size(s), size(building.direct[k])), building.direct[k], s, shown),
-        '<p class="rest">No right on the other %d axes.</p></article>' % rest if rest else "</article>"])
+        '<p class="rest">No right on the other %s.</p></article>' % others if rest else "</article>"])
 
 
 def person_card(page, u):

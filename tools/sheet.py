@@ -40,7 +40,7 @@ def make(crew_path, printed, old_path):
     crew = within(crew_path, read_crew, read_text(crew_path))
     names = read_known_names(crew_path.with_suffix(".names"))
     building = within("what the lister printed", read_listing, crew, names, printed)
-    old = within(old_path, read_listing, crew, names, read_text(old_path)) if old_path else None
+    old = within("the earlier listing", read_listing, crew, names, read_text(old_path)) if old_path else None
     return make_page(crew_path.name, building, names, old)
 
 
