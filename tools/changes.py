@@ -13,7 +13,7 @@ def changes(page, old):
     gone = [k for k in old.roles if k not in new.sets]
     come = [k for k in new.roles if k not in old.sets]
     if not gone and not come:  # the building follows from the roles that stand
-        return '<p data-changes="0"><strong>Nothing changed</strong> since the earlier listing: the same roles stand, with the same members, rights and links.</p>'
+        return '<p data-changes="0"><strong>Nothing changed:</strong> the same roles stand, with the same members, rights and links.</p>'
     altered = [item for item in (role_changes(page, old, k) for k in new.roles if k in old.sets) if item]
     return "\n".join(['<div data-changes="%d">' % (len(gone) + len(come)), SAME, counted(old, new),
                       listed("Roles gone", [whole_role(page, old, k, "gone") for k in gone]),
@@ -48,5 +48,6 @@ def role_changes(page, old, k):
 
 
 def part_changes(before, now, part, show, ceased, began):
-    items = [("-", ceased, before & ~now), ("+", began, now & ~before)]
-    return "".join('<li data-change="%s%s">%s: %s</li>' % (sign, part, words, show(s)) for sign, words, s in items if s)
+    """What ceased and what began, each in a line."""
+    both = ("-", ceased, before & ~now), ("+", began, now & ~before)
+    return "".join('<li data-change="%s%s">%s: %s</li>' % (sign, part, words, show(s)) for sign, words, s in both if s)

@@ -89,7 +89,7 @@ def summary(page):
 
 
 def cards(made):
-    return '<div class="cards">\n%s\n</div>' % "\n".join(made)
+    return '<div class="cards">\n%s\n</div>' % ("\n".join(made) or "<p>None.</p>")
 
 
 def legend(role):
@@ -103,7 +103,7 @@ def strikes(page):
     building = page.building
     free = collect(k for k in building.roles if not building.sole(k))
     said = ("<p>A role can be struck when other standing roles give the same rights to the same persons, so that nobody loses one. "
-            "The others can't be struck: each card below says what would be lost.</p>")
+            "The others can't be struck now: their cards say what would be lost.</p>")
     if not free:
         return said + '<p data-strikable=""><strong>None.</strong></p>'
     each = ["<li><strong>%s</strong> (direct members: %s; direct rights: %s)</li>"
@@ -116,11 +116,11 @@ def verdict(page, k):
     """Whether the role can be struck now; if not, the grants that only it covers, persons with the same ones together."""
     lost = {}
     for u, s in page.building.sole(k).items():
-        lost.setdefault(s, []).append(u)
+        lost[s] = lost.get(s, 0) | 1 << u
     if not lost:
         return '<p class="free" data-strikable="yes"><strong>Can be struck now.</strong> Other roles give all that it gives.</p>'
     groups = ['<li data-users="%s" data-permissions="%s"><b>%s</b>: %s</li>'
-              % (numbers(collect(users)), numbers(s), page.persons(collect(users)), page.rights(s)) for s, users in lost.items()]
+              % (numbers(users), numbers(s), page.persons(users), page.rights(s)) for s, users in lost.items()]
     return '<div class="kept" data-strikable="no"><strong>Can\'t be struck now.</strong> Only this role gives:<ul>%s</ul></div>' % "".join(groups)
 
 
@@ -143,7 +143,8 @@ def axis_card(page, a):
 
 
 def permission_row(page, p):
-    """One right: who has it, those with the same own roles together, and the roles that give it directly."""
+    """One right: who has it, those with the same own roles together, and the roles that give it directly. Persons are no links here: of
+    128 with 256 permissions each there would be too many."""
     building, groups = page.building, {}
     with_it = collect(k for k in building.roles if building.sets[k] >> p & 1)
     for u, own in enumerate(building.own):
@@ -210,8 +211,9 @@ def person_card(page, u):
     building = page.building
     direct, whole = building.rights(u)
     own, further = building.own[u], building.of_user[u] & ~building.own[u]
+    number = " <small>person %d</small>" % u if ("person", u) in page.names.names else ""
     return "\n".join([
-        '<article class="card" id="person-%d" data-user="%d"><h3>%s <small>person %d</small></h3>' % (u, u, page.names.person(u), u),
+        '<article class="card" id="person-%d" data-user="%d"><h3>%s%s</h3>' % (u, u, page.names.person(u), number),
         facts([("Direct roles", ' data-direct="%s"' % numbers(own), page.roles(own)),
                ("Roles by inheritance", ' data-inherited="%s"' % numbers(further), page.roles(further))]),
         grid(page, 'data-user="%d"' % u, "%d rights, %d of them direct" % (size(whole), size(direct)), direct, whole, axes(page.crew.m)),

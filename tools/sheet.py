@@ -48,7 +48,7 @@ def write(path, text):
     """Written beside and then renamed, so that no one finds half a page."""
     part = path.with_name(path.name + ".part")
     try:
-        part.write_text(text, encoding="utf-8")
+        part.write_text(text, encoding="utf-8", errors="replace")  # a file's name may be no text
         os.replace(part, path)
     finally:
         part.unlink(missing_ok=True)
