@@ -166,7 +166,8 @@ def check_page(name, case, page):
 def check_alone(name, root, page):
     """Nothing from elsewhere, no script, and no link to what is not on the page."""
     elements = root.within()
-    check(name + ": no script, nothing fetched", {e.tag for e in elements} & {"script", "link", "img", "iframe", "object", "use", "image", "form"}, set())
+    fetching = {"script", "link", "img", "iframe", "object", "use", "image", "form"}
+    check(name + ": no script, nothing fetched", {e.tag for e in elements} & fetching, set())
     check(name + ": no handlers", [a for e in elements for a in e.attributes if a.startswith("on") or a in ("src", "srcset", "style")], [])
     style = root.one("style").text()
     check(name + ": the style fetches nothing", "url(" in style or "@import" in style, False)
@@ -404,7 +405,8 @@ def the_largest(desk):
     show(desk, "128 x 256", case, Desk.made)
 
 
-NASTY = ['<b>"Al" & \'Bo\'</b>', "</td></table><script>alert(1)</script>", "&lt;&amp;", "a,b;c: d", "Zoë “the” <fly>", "x" * 60, "%s%d%%", "\\", "' onclick='x"]
+NASTY = ['<b>"Al" & \'Bo\'</b>', "</td></table><script>alert(1)</script>", "&lt;&amp;", "a,b;c: d", "Zoë “the” <fly>", "x" * 60, "%s%d%%", "\\",
+         "' onclick='x"]
 
 
 def names_that_bite(desk):
@@ -422,6 +424,7 @@ def small_ones(desk):
     show(desk, "one of each", Case(1, 1, [1]))
     show(desk, "01's rows", Case(3, 3, [3, 6, 7]))
     show(desk, "01's rows, listed", Case(3, 3, [3, 6, 7], 0b0110))
+    show(desk, "two roles of one's own, one of them above", Case(4, 3, [1, 3, 4, 7], 0b0111))
     show(desk, "a fan", Case(*M.antichain(40, 60)))
 
 
@@ -463,19 +466,18 @@ def check_changes(name, case, old, section):
 
 def what_changed(desk):
     case = tour()
-    old, section = with_old(desk, "since mining", case, M.everything(case.crew), Desk.made)
-    check_changes("since mining", case, old, section)
-    check("since mining: rights moved both ways in this example", {"+direct", "+juniors", "-juniors"} <= {e["data-change"] for e in section.all("li", "data-change")})
     fresh = Case(case.n, case.m, case.rows, None, case.names)
-    old, section = with_old(desk, "back to all", fresh, case.standing)
-    check_changes("back to all", fresh, old, section)
-    check("back to all: rights that became inherited", "-direct" in {e["data-change"] for e in section.all("li", "data-change")})
-    rows = Case(3, 3, [3, 6, 7], 0b1110)
-    old, section = with_old(desk, "one for another", Case(3, 3, [3, 6, 7], 0b0111), 0b1110)
-    check_changes("one for another", Case(3, 3, [3, 6, 7], 0b0111), old, section)
-    old, section = with_old(desk, "nothing", rows, rows.standing)
+    small = [Case(3, 3, [3, 6, 7], standing) for standing in (0b0111, 0b1110)]
+    seen = set()
+    for name, now, before, make in (("since mining", case, fresh, Desk.made), ("back to all", fresh, case, Desk.computed),
+                                    ("one for another", small[0], small[1], Desk.computed)):
+        old, section = with_old(desk, name, now, before.standing, make)
+        check_changes(name, now, old, section)
+        seen |= {e["data-change"] for e in section.all("li", "data-change")}
+    check("every kind of change was seen", seen, {sign + part for sign in "+-" for part in ("direct", "members", "juniors")})
+    old, section = with_old(desk, "nothing", case, case.standing)
     check("nothing changed", ("Nothing changed" in section.text(), section.all("ul")), (True, []))
-    check("no changes without OLD", "changes" in show(desk, "no OLD", rows), False)
+    check("no changes without OLD", "changes" in show(desk, "no OLD", case), False)
 
 
 # ---- what is refused --------------------------------------------------------------------------------------------
@@ -521,9 +523,10 @@ def crew_texts(_):
     good = tour().crew_text()
     check("rows read", read_crew(good).rows, tour().rows)
     for name, text in (("empty", ""), ("head", good.replace("crew,12,40", "crew,012,40")), ("limits", "crew,129,1\n"), ("no persons", "crew,0,3\n"),
-                       ("wide", "crew,1,257\n0," + "0" * 65 + "\n"), ("CR", good.replace("\n", "\r\n")), ("more", good + "\n"), ("a letter more", good + "x"), ("short", good[:-12]),
-                       ("no end", good[:-1]), ("letters", good.replace("ff", "FF", 1)), ("digits", good.replace("\n8,0", "\n8,")),
-                       ("order", good.replace("\n8,", "\n9,")), ("bit at m", "crew,1,3\n0,8\n"), ("too many", M.crew_text(*M.lacking_one(8)).decode())):
+                       ("wide", "crew,1,257\n0," + "0" * 65 + "\n"), ("CR", good.replace("\n", "\r\n")), ("more", good + "\n"),
+                       ("a letter more", good + "x"), ("short", good[:-12]), ("no end", good[:-1]), ("letters", good.replace("ff", "FF", 1)),
+                       ("digits", good.replace("\n8,0", "\n8,")), ("order", good.replace("\n8,", "\n9,")), ("bit at m", "crew,1,3\n0,8\n"),
+                       ("too many", M.crew_text(*M.lacking_one(8)).decode("ascii"))):
         check("crew text: " + name, reason(read_crew, text) is not None)
 
 
@@ -543,6 +546,7 @@ def foreign_listings(_):
     check("the listing itself", judged(good), None)
     lines = good.splitlines(keepends=True)
     head = "roles,%d,%s" % (len(lines) - 2, lines[0].split(",")[2])
+    bare = Case(case.n, case.m, case.rows, M.less(case.standing, 1 << 20), case.names).listing()
     taken = [good[:i] + other_digit(good[i]) + good[i + 1:] for i in range(len("roles,"), len(good)) if good[i] not in ",\n"]
     check("each digit counts", [i for i, listing in enumerate(taken) if judged(listing) is None], [])
     for name, listing, words in (
@@ -554,7 +558,7 @@ def foreign_listings(_):
             ("no last end", good[:-1], "byte 10"), ("CR", good.replace("\n", "\r\n"), "byte 10"), ("a line more", good + "\n", "can't read"),
             ("quality", good.replace(",98\n", ",97\n"), "line 1: quality 97 should be 98"),
             ("another crew", Case(*M.lacking_one(6)).listing(), "not a listing of this crew"),
-            ("bare", Case(case.n, case.m, case.rows, M.less(case.standing, 1 << 20), case.names).listing(), "no role gives flying supervisor the right to flying harness: limits")):
+            ("bare", bare, "no role gives flying supervisor the right to flying harness: limits")):
         check("foreign: " + name, words in (judged(listing) or "") or judged(listing))
 
 

@@ -18,6 +18,23 @@ def fail(words):
     sys.exit("pretty: " + words)
 
 
+def draw(roles, names, path):
+    """The drawing, where Graphviz is installed."""
+    if shutil.which("dot") is None:
+        print("No drawing: Graphviz is not installed (there is no `dot`).")
+        return
+    lines = ["digraph roles {", "  node [shape=box];"]
+    for k, (_, direct, members, juniors) in roles.items():
+        persons = [names.persons(members)] if members else []
+        label = "\\n".join(["role %d" % k] + persons + names.rights(direct)).replace('"', "'")
+        lines.append('  %d [label="%s"];' % (k, label))
+        lines += ["  %d -> %d;" % (k, j) for j in items(juniors)]
+    made = subprocess.run(["dot", "-Tsvg", "-o", path], input="\n".join(lines + ["}", ""]), text=True)
+    if made.returncode:
+        fail("dot could not make the drawing")
+    print("Drawing: " + path)
+
+
 def main():
     if len(sys.argv) not in (2, 3):
         sys.exit("usage: pretty.py CREW [DRAWING] < what the lister printed")
@@ -51,19 +68,7 @@ def main():
             show(k, 0)
     if len(sys.argv) == 3:
         print()
-        if shutil.which("dot") is None:
-            print("No drawing: Graphviz is not installed (there is no `dot`).")
-            return
-        lines = ["digraph roles {", "  node [shape=box];"]
-        for k, (_, direct, members, juniors) in roles.items():
-            persons = [names.persons(members)] if members else []
-            label = "\\n".join(["role %d" % k] + persons + names.rights(direct)).replace('"', "'")
-            lines.append('  %d [label="%s"];' % (k, label))
-            lines += ["  %d -> %d;" % (k, j) for j in items(juniors)]
-        made = subprocess.run(["dot", "-Tsvg", "-o", sys.argv[2]], input="\n".join(lines + ["}", ""]), text=True)
-        if made.returncode:
-            fail("dot could not make the drawing")
-        print("Drawing: " + sys.argv[2])
+        draw(roles, names, sys.argv[2])
 
 
 if __name__ == "__main__":
