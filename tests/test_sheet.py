@@ -191,7 +191,7 @@ def check_grid(name, case, table, direct, whole, axes):
     """A line for each of these axes, and in it each permission with its sign; in a column each, under the actions' names."""
     head, *lines = table.all("tr")
     columns = range(min(8, case.m))
-    check(name + " caption", table.one("caption").text(), "%d rights, %d of them direct" % (M.size(whole), M.size(direct)))
+    check(name + " caption", table.one("caption").text(), "Rights: %d, direct ones: %d" % (M.size(whole), M.size(direct)))
     check(name + " actions", [e.text() for e in head.all("th")], [case.name("action", i) for i in columns])
     got = [(line.parts[0].text(), [(cell.attributes.get("data-permission"), SIGNS.get(cell.text(), "?"), cell.attributes.get("class", ""))
                                    for cell in line.parts[1:]]) for line in lines]

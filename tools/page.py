@@ -127,7 +127,7 @@ def verdict(page, k):
 # ---- who may ----------------------------------------------------------------------------------------------------
 
 def who_may(page):
-    said = "<p>Beside the persons stands their own role, through which they have the right; last, the roles that give it directly.</p>"
+    said = "<p>In brackets stands the direct role of the persons through which they have the right; in the last column the roles that give it directly.</p>"
     return said + cards(axis_card(page, a) for a in axes(page.crew.m))
 
 
@@ -159,7 +159,7 @@ def permission_row(page, p):
 
 def hierarchy(page, names):
     said = ("<p>A line leads from a role down to one from which it inherits rights; its members hold that role too. "
-            "A dashed box could be struck now.</p>")
+            "A dashed box could be struck now. <span>Slide the drawing sideways where it is wider than the screen.</span></p>")
     return said + '<div class="drawing" role="region" aria-label="drawing" tabindex="0">%s</div>' % drawing(page.building, names)
 
 
@@ -202,7 +202,7 @@ def role_card(page, k):
         facts([("Direct members", ' data-direct="%s"' % numbers(direct), page.persons(direct)),
                ("Members by inheritance", ' data-inherited="%s"' % numbers(inherited), ", ".join(by) or "none"),
                ("Roles below", ' data-juniors="%s" data-further="%s"' % (numbers(building.juniors[k]), numbers(further)), below)]),
-        grid(page, 'data-role="%d"' % k, "%d rights, %d of them direct" % (size(s), size(building.direct[k])), building.direct[k], s, shown),
+        grid(page, 'data-role="%d"' % k, "Rights: %d, direct ones: %d" % (size(s), size(building.direct[k])), building.direct[k], s, shown),
         '<p class="rest">No right on the other %s.</p></article>' % others if rest else "</article>"])
 
 
@@ -216,5 +216,5 @@ def person_card(page, u):
         '<article class="card" id="person-%d" data-user="%d"><h3>%s%s</h3>' % (u, u, page.names.person(u), number),
         facts([("Direct roles", ' data-direct="%s"' % numbers(own), page.roles(own)),
                ("Roles by inheritance", ' data-inherited="%s"' % numbers(further), page.roles(further))]),
-        grid(page, 'data-user="%d"' % u, "%d rights, %d of them direct" % (size(whole), size(direct)), direct, whole, axes(page.crew.m)),
+        grid(page, 'data-user="%d"' % u, "Rights: %d, direct ones: %d" % (size(whole), size(direct)), direct, whole, axes(page.crew.m)),
         "</article>"])
