@@ -492,7 +492,7 @@ def refusals(desk):
     desk.old.write_text(Case(3, 3, [3, 6, 7]).listing(), encoding="ascii")
     desk.refused("an OLD of another crew", "the earlier listing: not a listing of this crew", good, desk.old)
     desk.names.write_bytes(b"person,3,\xff\n")
-    desk.refused("names not in UTF-8", "it is not UTF-8", good)
+    desk.refused("names not in UTF-8", "it is not text in UTF-8", good)
     ran = subprocess.run([sys.executable, ROOT / "tools/sheet.py", desk.crew, desk.crew], input=b"", capture_output=True, check=False)
     check("a page that is none", (ran.returncode, ran.stderr.startswith(b"usage: "), desk.crew.is_file()), (1, True, True))
 
@@ -507,6 +507,8 @@ def unreadable(desk):
     desk.unreadable("a listing cut short", "can't read what the lister printed", good[:-40])
     desk.unreadable("a foreign letter", "can't read what the lister printed", good.replace("roles", "rôles"))
     desk.unreadable("no such OLD", "nowhere.txt", good, desk.old.with_name("nowhere.txt"))
+    desk.old.write_text(good, encoding="ascii", newline="\r\n")
+    desk.unreadable("an OLD with other ends of lines", "the earlier listing: not a listing of this crew: its lines", good, desk.old)
     desk.old.write_text("refused,4\n", encoding="ascii")
     desk.unreadable("a refused OLD", "the earlier listing: no roles: refused with 4", good, desk.old)
     for name, names in (("number", "person,x,Al\n"), ("name", "person,3\n"), ("kind", "persn,3,Al\n"), ("empty line", "person,3,Al\n\n")):
@@ -514,6 +516,9 @@ def unreadable(desk):
         desk.unreadable("names: " + name, "a.names: ", good)
     desk.put(text.replace("\n3,", "\n4,"))
     desk.unreadable("a damaged crew text", "a.crew: line 5 is not person 3", good)
+    for name, start, end in (("a mark", "\ufeff", "\n"), ("other ends of lines", "", "\r\n"), ("a letter", "é", "\n")):
+        desk.crew.write_text(start + text, encoding="utf-8", newline=end)
+        desk.unreadable("a crew text with " + name, "a.crew: it", good)
     desk.crew.unlink()
     desk.unreadable("no crew text", "can't read", good)
 

@@ -22,7 +22,7 @@ def items(s):
 def read_names(path):
     """The names in this file by kind and number (lines `person,0,name`, `axis,0,name`, `action,0,name`); none where there is no file."""
     names = {}
-    for line in read_text(path).splitlines() if path.is_file() else ():
+    for line in read_text(path, "utf-8-sig").splitlines() if path.is_file() else ():  # some editors put a mark first
         kind, number, name = (line.split(",", 2) + ["", ""])[:3]
         if not re.fullmatch("[0-9]{1,9}", number) or not name:
             raise Unreadable("%s: can't read the line %r" % (path, line))
@@ -30,14 +30,14 @@ def read_names(path):
     return names
 
 
-def read_text(path):
-    """The text of a file in UTF-8, without the mark that some editors put first."""
+def read_text(path, encoding):
+    """The text of a file, its line ends as they stand."""
     try:
-        return path.read_text(encoding="utf-8-sig")
+        return path.read_bytes().decode(encoding)
     except OSError as error:
         raise Unreadable("can't read %s: %s" % (path, error.strerror))
     except UnicodeDecodeError:
-        raise Unreadable("can't read %s: it is not UTF-8" % path)
+        raise Unreadable("can't read %s: it is not text in %s" % (path, "ASCII" if encoding == "ascii" else "UTF-8"))
 
 
 def read_roles(printed):

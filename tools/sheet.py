@@ -37,10 +37,10 @@ def read_known_names(path):
 def make(crew_path, printed, old_path):
     """The page, from the crew text, the names beside it and what the lister printed."""
     read_roles(printed)  # a refusal is said as such, whatever the crew text is
-    crew = within(crew_path, read_crew, read_text(crew_path))
+    crew = within(crew_path, read_crew, read_text(crew_path, "ascii"))
     names = read_known_names(crew_path.with_suffix(".names"))
     building = within("what the lister printed", read_listing, crew, names, printed)
-    old = within("the earlier listing", read_listing, crew, names, read_text(old_path)) if old_path else None
+    old = within("the earlier listing", read_listing, crew, names, read_text(old_path, "ascii")) if old_path else None
     return make_page(crew_path.name, building, names, old)
 
 
