@@ -349,9 +349,9 @@ class Desk:
         check(name + ": no page", [path.name for path in self.page.parent.glob("a.html*")], [])
 
     def unreadable(self, name, words, listing, *old):
-        """What the program would say has these words."""
-        why = reason(sheet.make, self.crew, listing, old[0] if old else None)
-        check(name + ": says why", words in (why or "") or why)
+        """What the program would say is one line with these words."""
+        why = reason(sheet.make, self.crew, listing, old[0] if old else None) or ""
+        check(name + ": says why", words in why and "\n" not in why or why)
 
 
 def reason(read, *given):
