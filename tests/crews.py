@@ -77,3 +77,17 @@ def nested_groups(rng, n, m, groups=3):
             row |= sum(1 << p for p in own[:rng.randrange(1, len(own) + 1)])
         rows.append(row)
     return n, m, rows
+
+
+def departments():
+    """128 users on 256 permissions, as in a large house: eight departments of sixteen users and four axes, with five ranks; the last two users of
+    a department stand in for the next. One user has everything, and one has a few actions on every axis."""
+    rows = []
+    for u in range(128):
+        department, place = divmod(u, 16)
+        rank = (0x01, 0x03, 0x07, 0x0f, 0x3f)[min(place // 3, 4)]
+        own = sum(rank << 8 * axis for axis in range(4)) << 32 * department
+        next_one = 0x03030303 << 32 * ((department + 1) % 8) if place > 13 else 0
+        rows.append(own | next_one)
+    rows[0], rows[48] = 2 ** 256 - 1, sum(0x67 << 8 * axis for axis in range(32))
+    return 128, 256, rows
