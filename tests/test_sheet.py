@@ -495,6 +495,10 @@ def refusals(desk):
     desk.refused("names not in UTF-8", "it is not text in UTF-8", good)
     ran = subprocess.run([sys.executable, ROOT / "tools/sheet.py", desk.crew, desk.crew], input=b"", capture_output=True, check=False)
     check("a page that is none", (ran.returncode, ran.stderr.startswith(b"usage: "), desk.crew.is_file()), (1, True, True))
+    crew = desk.crew.with_suffix(".html")
+    crew.write_text(text, encoding="ascii")
+    ran = subprocess.run([sys.executable, ROOT / "tools/sheet.py", crew, crew], input=good.encode(), capture_output=True, check=False)
+    check("a page over its own crew text", (ran.returncode, b"made from" in ran.stderr, crew.read_text(encoding="ascii")), (1, True, text))
 
 
 def unreadable(desk):
