@@ -17,7 +17,7 @@ use Rattle.rows.specs.Linked.{Ready}
 use Rattle.edit_work.specs.Work.{workLength, downStart}
 use Rattle.edit_trials.specs.declared.progress.Progress.{Progress}
 use Rattle.edit_trials.specs.Trying.{runAt}
-use Rattle.edit_eliminate.specs.Passing.{EliminationEnded}
+use Rattle.edit_eliminate.specs.Ending.{EliminationEnded}
 use Rattle.calls_edit.proofs.Edits.{repliedWith, edit-accepted}
 use Rattle.call_eliminate.specs.declared.EliminateAnswer.{EliminateAnswer}
 use Rattle.call_eliminate.specs.Results.{eliminateResult}

@@ -34,9 +34,9 @@ use Rattle.edit_work.specs.Work.{IndexedFor, downStart, Prepared}
 use Rattle.edit_turn.specs.declared.Terms.{Terms}
 use Rattle.edit_turn.specs.declared.Turn.{Turn}
 use Rattle.edit_turn.specs.Turning.{mostExamined, takeUpBy, runIn, Underway, RunReached}
-use Rattle.edit_eliminate.specs.Passing.{EliminationEnded}
+use Rattle.edit_eliminate.specs.Ending.{EliminationEnded}
 use Rattle.edit_turn.proofs.Turns.{up-examined}
-use Rattle.edit_eliminate.proofs.Taking.{stand-few}
+use Rattle.edit_pass.proofs.Taking.{stand-few}
 
 -- what the code finds of the strikable roles
 abbrev pub Found : List ℕ → List ℕ → ℕ → Type 0

@@ -1,5 +1,4 @@
 // The elimination: strikable roles struck, in passes, while the quality stays within the tolerance.
 mod all;
-mod pass;
 
 pub use all::eliminate_all;

@@ -5,9 +5,9 @@ use mathlib.Core.Path.{_≡_, refl}
 use native.Mathlib.Omega.{arith}
 use lib.ListN.{length}
 use Rattle.edit_work.specs.Work.{workLength}
-use Rattle.edit_eliminate.proofs.Taking.{ranks-asked, ranks-filled}
-use Rattle.edit_eliminate.proofs.pass.pass.Statement.{statement}
-use Rattle.edit_eliminate.proofs.pass.pass.Tie as tie
+use Rattle.edit_pass.proofs.Taking.{ranks-asked, ranks-filled}
+use Rattle.edit_pass.proofs.pass.Statement.{statement}
+use Rattle.edit_pass.proofs.pass.Tie as tie
 
 -- the places that the answers look back to
 abbrev start : tie.After-fill-ranks-arg → tie.Start

@@ -30,7 +30,7 @@ use Rattle.edit_work.proofs.Work.{take-unchanged, unchanged-take, prepared-same
 use Rattle.edit_turn.specs.declared.Terms.{Terms}
 use Rattle.edit_turn.specs.declared.Turn.{Turn}
 use Rattle.edit_turn.specs.Turning.{mostExamined, takeUpBy, runIn, Stand, Underway, RunReached}
-use Rattle.edit_eliminate.specs.Passing.{ByRedundancy}
+use Rattle.edit_pass.specs.Passing.{ByRedundancy}
 use Rattle.edit_turn.proofs.Turns.{up-examined, up-standing}
 
 -- ---- what stands is below c, and at most 128 roles

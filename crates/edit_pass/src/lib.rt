@@ -1,4 +1,4 @@
-// One pass over the worklist.
+// One pass of an elimination over its worklist.
 ghost use mathlib.Core.Path.{_≡_};
 ghost use Prim.Native.Nat.{_+_, _≤_};
 ghost use lib.ListN.{length, take};
@@ -10,7 +10,7 @@ ghost use Rattle.model.specs.State.{rolesOf};
 ghost use Rattle.indexes.specs.Index.{indexLength};
 ghost use Rattle.edit_work.specs.Work.{workLength, downStart, Prepared};
 ghost use Rattle.edit_turn.specs.Turning.{mostExamined, Allowed, takeUpBy, runIn, Underway, RunReached};
-ghost use Rattle.edit_eliminate.specs.Passing.{ByRedundancy};
+ghost use Rattle.edit_pass.specs.Passing.{ByRedundancy};
 use edit_order::fill_ranks;
 use edit_order::foremost;
 use edit_turn::Terms;

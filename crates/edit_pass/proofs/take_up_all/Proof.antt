@@ -11,9 +11,9 @@ use Rattle.hierarchy.proofs.Sieving.{fewer, not-empty, is-empty}
 use Rattle.model.specs.Record.{recordLength}
 use Rattle.stores.proofs.Stores.{part-back}
 use Rattle.edit_work.specs.Work.{downStart}
-use Rattle.edit_eliminate.proofs.Taking.{Taking, taking-start, taking-bound, taking-more, taking-all}
-use Rattle.edit_eliminate.proofs.pass.take_up_all.Statement.{statement}
-use Rattle.edit_eliminate.proofs.pass.take_up_all.Tie as tie
+use Rattle.edit_pass.proofs.Taking.{Taking, taking-start, taking-bound, taking-more, taking-all}
+use Rattle.edit_pass.proofs.take_up_all.Statement.{statement}
+use Rattle.edit_pass.proofs.take_up_all.Tie as tie
 
 abbrev Inv-loop : tie.InvT-loop
 Inv-loop rec₀ index work₀ terms run₀ todo₀ top₀ rec work run todo top =
