@@ -1,8 +1,7 @@
 -- A record's header, crew rows and candidates, held against those of the state that it holds.
 -- Assumes nothing.
 use mathlib.Core.Path.{_≡_, refl, sym, _∙_, ap}
-use mathlib.Core.Bool.{Bool, So}
-use mathlib.Core.Logic.{_↔_}
+use mathlib.Core.Bool.{So}
 use mathlib.Core.List.{List, [], _∷_}
 use Prim.Native.Nat.{ℕ, _+_, _-_, _*_, _/_, _%_, _^_, _≤_, _<_}
 use native.Mathlib.Omega.{arith}
@@ -18,7 +17,6 @@ use Rattle.model.specs.Hierarchy.{candidateCount, permissionSet}
 use Rattle.model.specs.Record.{recordLength, crewStart, setsStart, headerWord, stateOf}
 use Rattle.model.specs.State.{State, rolesOf}
 use Rattle.model.proofs.Lists.{getD-elems, length-rowsAt, getD-rowsAt}
-use Rattle.tables.specs.Tables.{ZeroFrom}
 use Rattle.mining.specs.Mining.{Written}
 use Rattle.rows.specs.Partway.{Headed}
 use Rattle.rows_check.proofs.Rows.{word-of, region-of, region-none, behind4}

@@ -1,18 +1,17 @@
 -- A record judged part by part.
 -- Assumes nothing.
-use mathlib.Core.Path.{_≡_, refl, sym, _∙_, ap}
+use mathlib.Core.Path.{_≡_, refl, sym, _∙_}
 use mathlib.Core.Bool.{Bool, true, false, So, not}
 use mathlib.Core.Logic.{_↔_}
 use mathlib.Core.List.{List}
-use Prim.Native.Nat.{ℕ, _+_, _^_, _≤_, _<_}
+use Prim.Native.Nat.{ℕ, _^_, _≤_, _<_}
 use native.Mathlib.Omega.{arith}
-use lib.Dec.{eqb, ltb}
+use lib.Dec.{ltb}
 use borrow.Author.Tests.{not-true, not-false}
 use lib.ListN.{length, getD}
-use lib.Seq.{ext-getD}
 use Rattle.sets.specs.Truth.{_and_, all}
 use Rattle.sets.specs.Sets.{has, subset, collect}
-use Rattle.sets.proofs.Truth.{same-test, So-not, not-So, and-iff, all-iff, eqb-iff, ltb-iff}
+use Rattle.sets.proofs.Truth.{same-test, So-not, not-So, and-iff, ltb-iff}
 use Rattle.sets.proofs.Order.{subset-iff, collect-iff}
 use Rattle.sets.proofs.Items.{same-set, item-below, below-of-items}
 use Rattle.model.specs.Lists.{setAt, rowsAt}
@@ -22,7 +21,7 @@ use Rattle.model.specs.Coverage.{allCovered}
 use Rattle.model.specs.Record.{recordLength, crewStart, built, stateOf, sound, Limits}
 use Rattle.model.specs.State.{rolesOf, fresh, withinLimits, rowsWithin}
 use Rattle.model.proofs.Lists.{length-rowsAt}
-use Rattle.model.proofs.Record.{withinLimits-iff, rowsWithin-iff, sound-iff, sound-built, built-length}
+use Rattle.model.proofs.Record.{withinLimits-iff, rowsWithin-iff, sound-iff, sound-built}
 use Rattle.indexes.specs.Index.{Indexed}
 use Rattle.rows.specs.Linked.{Linked, Ready}
 use Rattle.rows.specs.Partway.{Headed}

@@ -7,14 +7,13 @@ use Prim.Native.Nat.{ℕ, suc, _+_, _-_, _*_, _/_, _%_, _^_, _≤_, _<_}
 use native.Mathlib.Nat.{mul-suc, mul-le-mul-left}
 use native.Mathlib.Omega.{arith}
 use lib.ListN.{length, getD, take, drop, List·getD-eq-default}
-use lib.Pow.{pow-pos}
 use Rattle.sets.specs.Sets.{has, collect}
 use Rattle.sets.specs.Words.{word}
 use Rattle.sets.proofs.Truth.{So-not, either}
 use Rattle.sets.proofs.Items.{digit, has-above}
 use Rattle.sets.proofs.Words.{word-value, word-zero}
 use Rattle.model.specs.Lists.{elems, setAt}
-use Rattle.model.specs.Hierarchy.{Roles, candidateCount, permissionSet, immediateJuniors, directPermissions, directMembers}
+use Rattle.model.specs.Hierarchy.{Roles, candidateCount, immediateJuniors, directPermissions, directMembers}
 use Rattle.model.specs.Record.{recordLength, permissionsStart, membersStart, juniorsStart, headerWord, wordAt, built, Limits}
 use Rattle.model.specs.State.{State, rolesOf}
 use Rattle.model.proofs.Building.{absent-juniors, absent-permissions, absent-members}
