@@ -87,15 +87,15 @@
  * frame, and so on for each call; PANEL_STACK_ANY is the largest of these. They are measured, on the worst lists and
  * with glibc's memcpy and memset; an interrupt that runs on the same stack comes on top.
  */
-#define PANEL_CODE_BYTES 45056
-#define PANEL_STACK_ANY 51200
-#define PANEL_STACK_MINE 35840
-#define PANEL_STACK_STRIKE 35840
-#define PANEL_STACK_RESTORE 35840
-#define PANEL_STACK_ELIMINATE 51200
-#define PANEL_STACK_REVIEW 35840
-#define PANEL_STACK_QUALITY 35840
-#define PANEL_STACK_MAY 35840
+#define PANEL_CODE_BYTES 46080
+#define PANEL_STACK_ANY 38912
+#define PANEL_STACK_MINE 23552
+#define PANEL_STACK_STRIKE 23552
+#define PANEL_STACK_RESTORE 23552
+#define PANEL_STACK_ELIMINATE 38912
+#define PANEL_STACK_REVIEW 23552
+#define PANEL_STACK_QUALITY 23552
+#define PANEL_STACK_MAY 23552
 #define PANEL_STACK_READ_CREW 5120
 
 /*

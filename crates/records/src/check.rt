@@ -13,7 +13,6 @@ ghost use Rattle.rows.specs.Partway.{Headed};
 ghost use Rattle.tables.specs.Tables.{table128Length};
 use crate::cover::all_covered;
 use crate::head::is_headed;
-use indexes::INDEX_LENGTH;
 use indexes::fill_index;
 use limits::limits_kept;
 use limits::rows_within;
@@ -82,14 +81,4 @@ pub fn is_sound(rec: &[u64], index: &mut [u64], seniors: &mut [u64]) -> bool
         return false;
     }
     matches(rec, index, seniors)
-}
-
-// The same for the calls that only read.
-pub fn record_sound(rec: &[u64]) -> bool
-    requires { ⌜ length (now rec) ≡ recordLength ⌝ }
-    ensures { λ r. ⌜ r ≡ sound (now (rec .entry)) ⌝ }
-{
-    let mut index = [0u64; INDEX_LENGTH];
-    let mut seniors = [0u64; 256];
-    is_sound(rec, &mut index, &mut seniors)
 }

@@ -6,5 +6,4 @@ mod fresh;
 mod head;
 
 pub use check::is_sound;
-pub use check::record_sound;
 pub use fresh::write_fresh;
