@@ -9,8 +9,8 @@ GXX = install GCC for C++
 CARGO = install Rust with cargo
 PKGCONFIG = install pkg-config
 
-# each check of the prover is one thread; four at a time keep two cores busy where they differ in length
-PROVE = TMPDIR=$$(sh tools/scratch.sh) RT_JOBS=4 rt
+# a check of the prover is one thread
+PROVE = TMPDIR=$$(sh tools/scratch.sh) RT_JOBS=2 rt
 
 # the archive is made of crates that are proved already: by itself it would prove them one after the other
 ARCHIVE = $(PROVE) check panel && $(PROVE) staticlib panel

@@ -1,6 +1,6 @@
 #!/bin/sh
 # Prints the folder for the prover's temporary files: memory, where it has room for them and a program can be run from it, and otherwise the
-# folder that temporary files go to anyway. A check writes some thousands of small files, and in memory it is done a fifth sooner.
+# folder that temporary files go to anyway. A check writes some thousands of small files, more the more crates lie below: on a disk that was up to a fifth of its time.
 memory=/dev/shm
 folder=${TMPDIR:-/tmp}
 room=$(df -Pk "$memory" 2>/dev/null | awk 'NR == 2 { print $4 }')

@@ -25,7 +25,7 @@ use Rattle.model.proofs.Record.{withinLimits-iff, rowsWithin-iff, sound-iff, so
 use Rattle.indexes.specs.Index.{Indexed}
 use Rattle.rows.specs.Linked.{Linked, Ready}
 use Rattle.rows.specs.Partway.{Headed}
-use Rattle.rows_check.proofs.Telling.{failed}
+use Rattle.sets.proofs.Telling.{failed}
 use Rattle.records.specs.Records.{OnlyCandidates, Described}
 use Rattle.records.proofs.Beginning.{built-headed}
 

@@ -1,4 +1,5 @@
 pub mod Truth
+pub mod Telling
 pub mod Items
 pub mod Order
 pub mod Counts

@@ -29,7 +29,7 @@ use Rattle.text_lines.specs.declared.row.Row.the-variants.{Digits, Broken}
 use Rattle.text_crew.specs.declared.rows.RowsEnd.the-variants.{End, BadForm, BadBit}
 use Rattle.text_crew.specs.Reader.{longestText, bufferLength, Read, rowsRead, badForm, badBit, withRow, nextRow, rowsTo, laid, rowsEnd, RowsLaid, ReadReply, readRefused, readResult, afterRows, afterHeader, readCrew}
 use Rattle.text_lines.specs.Lines.{rowDigitsAt, headerAt}
-use Rattle.text_lines.proofs.Lines.{said-no, said-yes}
+use Rattle.sets.proofs.Telling.{said-no, said-yes}
 use Rattle.text_crew.proofs.Laid.{laid-more}
 
 -- ---- no bit at m or above

@@ -1,12 +1,11 @@
 -- The header and one row: each way through the definition.
 -- Assumes nothing.
 use mathlib.Core.Path.{_≡_, refl, sym, _∙_, ap}
-use mathlib.Core.Bool.{Bool, true, false, So, not}
+use mathlib.Core.Bool.{Bool, true, false, So}
 use mathlib.Core.List.{List}
 use mathlib.Core.Logic.{_≢_}
 use Prim.Native.Nat.{ℕ, _+_}
 use lib.Dec.{eqb}
-use borrow.Author.Tests.{not-true, not-false}
 use Rattle.sets.specs.Truth.{_and_, if_then_else_}
 use Rattle.sets.proofs.Truth.{not-So, So-not, reflect, if-true, if-false}
 use Rattle.model.specs.State.{withinLimits}
@@ -24,14 +23,6 @@ use Rattle.text_lines.specs.declared.header.Header.{Header}
 use Rattle.text_lines.specs.declared.header.Header.the-variants.{Crew, Malformed, Beyond}
 use Rattle.text_lines.specs.declared.row.Row.the-variants.{Digits, Broken}
 use Rattle.text_lines.specs.Lines.{limited, headerEnd, headerRest, headerAt, rowRest, rowDigitsAt}
-
--- ---- what a test of `!f(..)` says of what f promises
-
-pub said-no : {r b : Bool} → r ≡ b → not r ≡ true → b ≡ false
-said-no {r} e h = sym e ∙ not-true r h
-
-pub said-yes : {r b : Bool} → r ≡ b → not r ≡ false → b ≡ true
-said-yes {r} e h = sym e ∙ not-false r h
 
 -- ---- limits
 

@@ -12,7 +12,7 @@ use Rattle.model.specs.Record.{stateOf, Limits}
 use Rattle.stores.proofs.Stores.{blank}
 use Rattle.tables.specs.Tables.{table256Length}
 use Rattle.mining.specs.Mining.{Mines}
-use Rattle.rows_check.proofs.Telling.{passed}
+use Rattle.sets.proofs.Telling.{passed}
 use Rattle.records.proofs.Judging.{limited, unlimited, unheaded, limited-users, too-many, too-high, limits}
 use Rattle.records.proofs.check.is_sound.Statement.{statement}
 use Rattle.records.proofs.check.is_sound.Tie as tie

@@ -4,7 +4,7 @@ use borrow.Author.Needs.{needs}
 use mathlib.Core.Path.{sym, _∙_}
 use Prim.Native.Nat.{ℕ, _^_, _<_}
 use lib.ListN.{getD}
-use Rattle.rows_check.proofs.Telling.{no-of, failed, passed}
+use Rattle.sets.proofs.Telling.{no-of, failed, passed}
 use Rattle.records.proofs.Heading.{headed-of, headed-count, headed-unused, headed-table}
 use Rattle.records.proofs.head.is_headed.Statement.{statement}
 use Rattle.records.proofs.head.is_headed.Tie as tie

@@ -1,7 +1,7 @@
 -- Three stretches, one after the other.
 -- Assumes nothing.
 use borrow.Author.Needs.{needs}
-use Rattle.rows_check.proofs.Telling.{no-of, failed, passed}
+use Rattle.sets.proofs.Telling.{no-of, failed, passed}
 use Rattle.records.proofs.head.unused_zero.Statement.{statement}
 use Rattle.records.proofs.head.unused_zero.Tie as tie
 

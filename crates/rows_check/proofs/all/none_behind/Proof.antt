@@ -1,7 +1,7 @@
 -- Three stretches, one after the other.
 -- Assumes nothing.
 use borrow.Author.Needs.{needs}
-use Rattle.rows_check.proofs.Telling.{no-of, failed, passed}
+use Rattle.sets.proofs.Telling.{no-of, failed, passed}
 use Rattle.rows_check.proofs.all.none_behind.Statement.{statement}
 use Rattle.rows_check.proofs.all.none_behind.Tie as tie
 

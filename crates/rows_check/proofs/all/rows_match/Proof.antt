@@ -7,7 +7,7 @@ use lib.ListN.{getD}
 use Rattle.model.specs.Hierarchy.{candidateCount}
 use Rattle.model.specs.State.{rolesOf}
 use Rattle.rows_check.specs.Held.{UpperHeld, NoneBehind}
-use Rattle.rows_check.proofs.Telling.{no-of, failed, passed}
+use Rattle.sets.proofs.Telling.{no-of, failed, passed}
 use Rattle.rows_check.proofs.Rows.{built-behind, built-upper, built-lower, juniors-held, seniors-linked, rows-built, count-told, standing-told}
 use Rattle.rows_check.proofs.all.rows_match.Statement.{statement}
 use Rattle.rows_check.proofs.all.rows_match.Tie as tie

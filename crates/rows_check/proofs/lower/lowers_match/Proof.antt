@@ -11,7 +11,7 @@ use Rattle.model.specs.Hierarchy.{immediateJuniors}
 use Rattle.rows.specs.Linked.{juniorsIn, Linked}
 use Rattle.rows.specs.Partway.{Target}
 use Rattle.rows_check.specs.Held.{LowerHeld}
-use Rattle.rows_check.proofs.Telling.{no-of, yes-of, failed, passed, one-more}
+use Rattle.sets.proofs.Telling.{no-of, yes-of, failed, passed, one-more}
 use Rattle.rows_check.proofs.lower.lowers_match.Statement.{statement}
 use Rattle.rows_check.proofs.lower.lowers_match.Tie as tie
 

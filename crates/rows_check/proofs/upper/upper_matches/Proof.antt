@@ -4,7 +4,7 @@ use borrow.Author.Needs.{needs}
 use mathlib.Core.Path.{sym, _∙_}
 use Rattle.sets.proofs.Truth.{eqb-iff}
 use Rattle.rows.proofs.Rewriting.{upper-computed}
-use Rattle.rows_check.proofs.Telling.{no-of, unequal, equal}
+use Rattle.sets.proofs.Telling.{no-of, unequal, equal}
 use Rattle.rows_check.proofs.Rows.{juniors-computed}
 use Rattle.rows_check.proofs.upper.upper_matches.Statement.{statement}
 use Rattle.rows_check.proofs.upper.upper_matches.Tie as tie

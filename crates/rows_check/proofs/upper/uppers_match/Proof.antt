@@ -8,7 +8,7 @@ use Rattle.sets_128.specs.Held.{set128}
 use Rattle.model.specs.State.{State}
 use Rattle.rows.specs.Partway.{Headed, Target}
 use Rattle.rows_check.specs.Held.{UpperHeld}
-use Rattle.rows_check.proofs.Telling.{no-of, yes-of, failed, passed, one-more}
+use Rattle.sets.proofs.Telling.{no-of, yes-of, failed, passed, one-more}
 use Rattle.rows_check.proofs.upper.uppers_match.Statement.{statement}
 use Rattle.rows_check.proofs.upper.uppers_match.Tie as tie
 

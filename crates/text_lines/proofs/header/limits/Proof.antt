@@ -1,7 +1,8 @@
 -- A limit broken, or all kept.
 -- Assumes nothing.
 use borrow.Author.Needs.{needs}
-use Rattle.text_lines.proofs.Lines.{said-no, said-yes, limits-broken, limits-kept}
+use Rattle.sets.proofs.Telling.{said-no, said-yes}
+use Rattle.text_lines.proofs.Lines.{limits-broken, limits-kept}
 use Rattle.text_lines.proofs.header.limits.Statement.{statement}
 use Rattle.text_lines.proofs.header.limits.Tie as tie
 

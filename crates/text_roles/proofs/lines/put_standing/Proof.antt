@@ -1,7 +1,7 @@
 -- The line of a role that stands, and nothing else.
 -- Assumes nothing.
 use borrow.Author.Needs.{needs}
-use Rattle.text_lines.proofs.Lines.{said-yes, said-no}
+use Rattle.sets.proofs.Telling.{said-yes, said-no}
 use mathlib.Core.Path.{_∙_, ap}
 use Rattle.sets.specs.Sets.{has}
 use Rattle.text_roles.proofs.Puts.{standing-put, absent-put}

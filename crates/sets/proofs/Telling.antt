@@ -1,4 +1,4 @@
--- What tests in a row tell.
+-- What a test tells of what it promises: by itself, and one after another.
 -- Assumes nothing.
 use mathlib.Core.Path.{_≡_, refl, sym, _∙_}
 use mathlib.Core.Bool.{Bool, true, false, So, not}
@@ -7,7 +7,14 @@ use borrow.Author.Tests.{not-true, not-false}
 use Prim.Native.Nat.{ℕ, _+_, _<_}
 use native.Mathlib.Omega.{arith}
 use lib.Dec.{eqb}
 use Rattle.sets.proofs.Truth.{So-not, eqb-iff, equal-or}
+
+-- what a test of `!f(..)` says of what f promises
+pub said-no : {r b : Bool} → r ≡ b → not r ≡ true → b ≡ false
+said-no {r} e h = sym e ∙ not-true r h
+
+pub said-yes : {r b : Bool} → r ≡ b → not r ≡ false → b ≡ true
+said-yes {r} e h = sym e ∙ not-false r h
 
 -- no is told where something does not hold
 pub no-of {ℓ} : {A : Type ℓ} → (A → ⊥) → So false ↔ A
