@@ -1,4 +1,6 @@
 // Who may do what: the roles that others reach by links, and the question `may`.
+#![tactic(auto)]
+
 mod reach;
 mod rights;
 

@@ -1,4 +1,6 @@
 // A block, 64 words of 64 bits, rows made columns: the bit in word r at place c goes to word c, place r.
+#![tactic(auto)]
+
 ghost use Rattle.std.specs.Prelude.{◌≡◌, ◌<◌, length};
 ghost use Rattle.std.proofs.Math.Bool.{So};
 ghost use Rattle.blocks.specs.Shuffles.{spaced, Shuffled, Transposed};

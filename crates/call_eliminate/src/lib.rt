@@ -1,3 +1,5 @@
+#![tactic(auto)]
+
 ghost use Rattle.std.specs.Prelude.{◌≡◌};
 ghost use Rattle.model.specs.Calls.{edit};
 ghost use Rattle.model.specs.Machine.{refusal};
@@ -17,7 +19,7 @@ use refusals::REFUSED_RANGE;
 
 // The refusal's number, or 0, and beside 0 how many roles were struck, and how many were examined.
 #[repr(C)]
-#[derive(Drop)]
+#[derive(Clone, Copy)]
 pub struct EliminateAnswer {
     pub code: u64,
     pub removed: u64,

@@ -1,3 +1,5 @@
+#![tactic(auto)]
+
 ghost use Rattle.std.specs.Prelude.{◌≡◌};
 ghost use Rattle.model.specs.Calls.{may_of};
 ghost use Rattle.call_may.specs.Results.{may_result};
@@ -7,7 +9,7 @@ use calls::{enter_to_read, pair_refusal};
 
 // The refusal's number, or 0, and beside 0 whether the user may: 1 or 0.
 #[repr(C)]
-#[derive(Drop)]
+#[derive(Clone, Copy)]
 pub struct MayAnswer {
     pub code: u64,
     pub allowed: u64,

@@ -1,3 +1,5 @@
+#![tactic(auto)]
+
 ghost use Rattle.std.specs.Prelude.{◌≡◌};
 ghost use Rattle.model.specs.Refusals.{◌or_else◌, length_refusal, limits_refusal, crew_refusal};
 ghost use Rattle.model.specs.Calls.{mine};
@@ -11,7 +13,7 @@ use refusals::REFUSED_CANDIDATES;
 
 // The refusal's number, or 0, and beside 0 the number of candidates.
 #[repr(C)]
-#[derive(Drop)]
+#[derive(Clone, Copy)]
 pub struct MineAnswer {
     pub code: u64,
     pub candidates: u64,

@@ -1,3 +1,5 @@
+#![tactic(auto)]
+
 ghost use Rattle.std.specs.Prelude.{◌≡◌};
 ghost use Rattle.model.specs.Calls.{quality_of};
 ghost use Rattle.quality.specs.Numbers.{weights_of};
@@ -8,7 +10,7 @@ use quality::{Weights, count_rows, weigh};
 
 // The refusal's number, or 0, and beside 0 the quality.
 #[repr(C)]
-#[derive(Drop)]
+#[derive(Clone, Copy)]
 pub struct QualityAnswer {
     pub code: u64,
     pub quality: u64,

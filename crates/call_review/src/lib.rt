@@ -1,3 +1,5 @@
+#![tactic(auto)]
+
 ghost use Rattle.std.specs.Prelude.{◌≡◌};
 ghost use Rattle.model.specs.Calls.{edit};
 ghost use Rattle.model.specs.Machine.Call.{review};
@@ -11,7 +13,7 @@ use quality::{Weights, count_rows};
 
 // The refusal's number, or 0, and beside 0 how many roles were restored, and how many were examined.
 #[repr(C)]
-#[derive(Drop)]
+#[derive(Clone, Copy)]
 pub struct ReviewAnswer {
     pub code: u64,
     pub restored: u64,

@@ -1,3 +1,5 @@
+#![tactic(auto)]
+
 ghost use Rattle.std.specs.Prelude.{◌≡◌, List, ℕ, ◌≤◌, length, get_or};
 ghost use Rattle.model.specs.Calls.{edit};
 ghost use Rattle.model.specs.Hierarchy.{Roles};
@@ -17,7 +19,7 @@ use tables::{STANDING, load128};
 
 // The refusal's number, or 0.
 #[repr(C)]
-#[derive(Drop)]
+#[derive(Clone, Copy)]
 pub struct StrikeAnswer {
     pub code: u64,
 }

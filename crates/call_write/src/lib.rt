@@ -1,4 +1,6 @@
 // The crew list of a record, handed back as a crew text.
+#![tactic(auto)]
+
 ghost use Rattle.std.specs.Prelude.{◌≡◌};
 ghost use Rattle.call_write.specs.Results.{write_result};
 ghost use Rattle.call_write.specs.Writer.{write_crew};
@@ -9,7 +11,7 @@ use text_write::{put_crew, text_length};
 
 // The refusal's number, or 0, and beside 0 how many bytes were written.
 #[repr(C)]
-#[derive(Drop)]
+#[derive(Clone, Copy)]
 pub struct CrewWritten {
     pub code: u64,
     pub length: u64,

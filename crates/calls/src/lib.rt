@@ -1,4 +1,6 @@
 // What the calls share: the entrance of those on a record, and checks of their numbers.
+#![tactic(auto)]
+
 mod entrance;
 mod numbers;
 

@@ -1,1 +1,2 @@
 // Laws of the calls that edit; no code.
+#![tactic(auto)]

@@ -1,4 +1,6 @@
 // A list of calls as words, which condition 3 is claimed over.
+#![tactic(auto)]
+
 ghost use Rattle.std.specs.Prelude.{◌≡◌};
 ghost use Rattle.calls_list.specs.Encoding.{readable};
 

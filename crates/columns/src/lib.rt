@@ -1,4 +1,6 @@
 // The columns of a table of sets: which sets hold an item. One by one, or all of them by transposing blocks of bits.
+#![tactic(auto)]
+
 mod all;
 mod one;
 

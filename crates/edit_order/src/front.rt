@@ -9,7 +9,7 @@ use sets_128::Set128;
 use tables::load128;
 
 // The role that comes next, and its key.
-#[derive(Drop)]
+#[derive(Clone, Copy)]
 pub struct Front {
     pub role: usize,
     pub rank: usize,

@@ -1,4 +1,6 @@
 // The order of a pass of the elimination: the redundancies of the roles, and the foremost of those left.
+#![tactic(auto)]
+
 mod front;
 mod ranks;
 mod redundancy;

@@ -1,4 +1,6 @@
 // One pass of an elimination over its worklist.
+#![tactic(auto)]
+
 ghost use Rattle.std.specs.Prelude.{◌≡◌, ◌+◌, ◌≤◌, length, take};
 ghost use Rattle.sets_128.specs.Held.{set128};
 ghost use Rattle.model.specs.Coverage.{strikables};

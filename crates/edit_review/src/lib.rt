@@ -1,4 +1,6 @@
 // The review: absent candidates restored where that makes the quality strictly smaller.
+#![tactic(auto)]
+
 mod turn;
 mod walk;
 

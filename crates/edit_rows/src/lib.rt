@@ -1,5 +1,7 @@
 // Taking a role out of a record and putting it back, in place: the standing mark, the row of the role and the rows of its immediate seniors and
 // juniors are written anew, and nothing else. The table of immediate seniors beside the record is kept true.
+#![tactic(auto)]
+
 mod change;
 
 pub use change::{put_back, put_back_at, take_out, take_out_at};

@@ -1,4 +1,6 @@
 // Whether roles can be struck: which grants are covered by which roles.
+#![tactic(auto)]
+
 mod removal;
 mod walk;
 

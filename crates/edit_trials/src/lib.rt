@@ -1,4 +1,6 @@
 // The counts that a strike or a restoration would give, found at the role's neighbours without writing it.
+#![tactic(auto)]
+
 mod count;
 mod lost;
 mod progress;

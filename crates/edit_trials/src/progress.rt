@@ -2,7 +2,7 @@
 use quality::Counts;
 
 // The counts of the record as it stands, the quality that the next trial is compared with, and how many roles were changed and examined.
-#[derive(Drop)]
+#[derive(Clone, Copy)]
 pub struct Progress {
     pub counts: Counts,
     pub quality: u64,

@@ -1,4 +1,6 @@
 // One role taken up.
+#![tactic(auto)]
+
 ghost use Rattle.std.specs.Prelude.{◌≡◌, ◌*◌, ◌≤◌, ◌<◌, ltb, length};
 ghost use Rattle.std.proofs.Math.Bool.{So};
 ghost use Rattle.sets.specs.Sets.{has};
@@ -17,14 +19,14 @@ use quality::{Tolerance, Weights, weigh};
 use sets_128::Set128;
 
 // The weights and the tolerance of an elimination.
-#[derive(Drop)]
+#[derive(Clone, Copy)]
 pub struct Terms {
     pub weights: Weights,
     pub tolerance: Tolerance,
 }
 
 // How far an elimination has come: the progress, and the worklist.
-#[derive(Drop)]
+#[derive(Clone, Copy)]
 pub struct Turn {
     pub progress: Progress,
     pub worklist: Set128,

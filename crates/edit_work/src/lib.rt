@@ -1,4 +1,6 @@
 // What an elimination computes once beside the record, in one slice: what the redundancies of its roles are found from.
+#![tactic(auto)]
+
 mod fill;
 mod further;
 mod holders;

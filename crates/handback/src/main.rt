@@ -1,4 +1,6 @@
 // A crew text from standard input, handed back on standard output through the reader, mining and the writer; or the refusal.
+#![tactic(auto)]
+
 use libc::{STDIN_FILENO, STDOUT_FILENO};
 
 fn main() {

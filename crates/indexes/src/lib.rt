@@ -1,4 +1,6 @@
 // The index of a record: what a call computes once beside it, and then only reads.
+#![tactic(auto)]
+
 mod layout;
 mod own;
 mod shared;

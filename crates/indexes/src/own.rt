@@ -19,14 +19,14 @@ use sets_256::Set256;
 use tables::{Found, load128, load256, search, store128};
 
 // The own roles met so far: those that are some user's row, and one such user for each of them.
-#[derive(Drop)]
+#[derive(Clone, Copy)]
 pub struct Own {
     pub roles: Set128,
     pub users: Set128,
 }
 
 // A user's roles, and the own roles with the user's among them.
-#[derive(Drop)]
+#[derive(Clone, Copy)]
 struct Learned {
     own: Own,
     roles: Set128,

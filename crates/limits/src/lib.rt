@@ -1,4 +1,6 @@
 // The limits of a crew list, and the refusals that they give.
+#![tactic(auto)]
+
 ghost use Rattle.std.specs.Prelude.{◌≡◌, ◌+◌, ◌*◌, ◌≤◌, length};
 ghost use Rattle.model.specs.Lists.{rows_at};
 ghost use Rattle.model.specs.State.{within_limits, rows_within};

@@ -1,4 +1,6 @@
 // What the role lister prints, as a function from a text to bytes.
+#![tactic(auto)]
+
 ghost use Rattle.std.specs.Prelude.{◌≡◌, ◌*◌, ◌≤◌, length};
 ghost use Rattle.std.proofs.Math.Bool.{So};
 ghost use Rattle.model.specs.Lists.{rows_at};

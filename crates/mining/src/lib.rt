@@ -1,5 +1,7 @@
 // Mining: the candidates of a crew list, in a table. A table is a slice of 512 words: at most 128 sets of four words each, which grow as
 // numbers, and zeros after them.
+#![tactic(auto)]
+
 mod seen;
 
 ghost use Rattle.std.specs.Prelude.{◌≡◌, ◌≢◌, ℕ, ◌+◌, ◌*◌, ◌≤◌, length, get_or};
@@ -18,14 +20,14 @@ use tables::{Found, insert, load256, search};
 const LIMIT: usize = 128;
 
 // How many sets a table has now; or that there is no room for another.
-#[derive(Drop)]
+#[derive(Clone, Copy)]
 pub enum Admitted {
     Count(usize),
     Full,
 }
 
 // How many candidates there are; or that there are more than 128.
-#[derive(Drop)]
+#[derive(Clone, Copy)]
 pub enum Mined {
     Count(usize),
     TooMany,

@@ -12,7 +12,7 @@ use calls_list::{ANSWER, CALL, can_read};
 use tables::copy;
 
 // Whether a list was served: it can't be read; its crew list is refused with this number; or it was mined, into this many candidates.
-#[derive(Drop)]
+#[derive(Clone, Copy)]
 pub enum Served {
     Unreadable,
     Refused(u64),
@@ -20,7 +20,7 @@ pub enum Served {
 }
 
 // What one call answers.
-#[derive(Drop)]
+#[derive(Clone, Copy)]
 pub struct Outcome {
     pub code: u64,
     pub changed: u64,

@@ -9,7 +9,7 @@ ghost use Rattle.quality.specs.Numbers.{counts_in, most_direct_permissions, most
 
 use tables::{JUNIORS, LENGTH, MEMBERS, PERMISSIONS, STANDING, load128, load256};
 
-#[derive(Drop)]
+#[derive(Clone, Copy)]
 pub struct Counts {
     pub roles: u64,
     pub members: u64,

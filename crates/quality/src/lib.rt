@@ -1,4 +1,6 @@
 // The counts of a record's rows, and what they weigh.
+#![tactic(auto)]
+
 mod counts;
 mod weights;
 

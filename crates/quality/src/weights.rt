@@ -10,7 +10,7 @@ use crate::counts::Counts;
 const MOST_WEIGHT: u64 = 1000;
 
 // One for each of the four counts.
-#[derive(Drop)]
+#[derive(Clone, Copy)]
 pub struct Weights {
     pub role: u64,
     pub member: u64,
@@ -19,7 +19,7 @@ pub struct Weights {
 }
 
 // The tolerance a/b.
-#[derive(Drop)]
+#[derive(Clone, Copy)]
 pub struct Tolerance {
     pub numerator: u64,
     pub denominator: u64,

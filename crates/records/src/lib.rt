@@ -1,4 +1,6 @@
 // Whole records: written afresh, and judged.
+#![tactic(auto)]
+
 mod begin;
 mod check;
 mod cover;

@@ -1,4 +1,5 @@
 // "Who sends a call back": the numbers of document 01, and those that requests of 02 add, and what each says.
+#![tactic(auto)]
 
 // The record's length is not 2,056 words.
 pub const REFUSED_LENGTH: u64 = 1;

@@ -1,5 +1,5 @@
 // An item of a set, where there is one.
-#[derive(Drop)]
+#[derive(Clone, Copy)]
 pub enum Item {
     At(usize),
     Nothing,

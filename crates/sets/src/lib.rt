@@ -1,4 +1,6 @@
 // Sets held in 64-bit words and carried by value: item i is bit i mod 64 of word i / 64. specs/ says what each operation means.
+#![tactic(auto)]
+
 mod item;
 mod word;
 

@@ -8,7 +8,7 @@ ghost use Rattle.sets.specs.Words.{word};
 use crate::item::Item;
 
 // The word that holds an item, and the item's bit in it.
-#[derive(Drop)]
+#[derive(Clone, Copy)]
 pub struct Place {
     pub word: usize,
     pub bit: usize,

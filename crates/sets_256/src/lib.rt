@@ -1,3 +1,5 @@
+#![tactic(auto)]
+
 ghost use Rattle.std.specs.Prelude.{◌≡◌, eqb, ltb};
 ghost use Rattle.std.specs.Int.Count.{ones};
 ghost use Rattle.sets.specs.Extremes.{highest, lowest};
@@ -9,7 +11,7 @@ ghost use Rattle.sets.specs.Words.{value, word};
 use sets::{Item, bit_at, count_of, highest_or, less_or, lowest_or, mask_below, place_of};
 
 // A set of items below 256.
-#[derive(Drop)]
+#[derive(Clone, Copy)]
 pub struct Set256 {
     pub words: [u64; 4],
 }

@@ -9,7 +9,7 @@ use crate::{load256, store256};
 use sets_256::Set256;
 
 // The place of a set in a table, or the place where it belongs.
-#[derive(Drop)]
+#[derive(Clone, Copy)]
 pub enum Found {
     At(usize),
     Missing(usize),

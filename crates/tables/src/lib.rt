@@ -1,4 +1,6 @@
 // A slice of words as a table of sets: a set at a place read and written, a region copied and compared, a growing table searched; the layout of a record.
+#![tactic(auto)]
+
 mod growing;
 mod layout;
 

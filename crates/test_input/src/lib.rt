@@ -1,9 +1,11 @@
 // The numbers of a script's line, read from standard input.
+#![tactic(auto)]
+
 use libc::STDIN_FILENO;
 use text::Field;
 use text_sets::{hexadecimal_set, read_hexadecimal};
 
-#[derive(Drop)]
+#[derive(Clone, Copy)]
 enum Number {
     Is(u64),
     Nothing,

@@ -1,4 +1,6 @@
 // What the lister prints for each of many crew texts, and what comes back of it: the files 000, 001 and so on, until one is missing.
+#![tactic(auto)]
+
 use libc::STDOUT_FILENO;
 
 const MOST_TEXTS: u64 = 1000;

@@ -17,6 +17,8 @@
 //     w   count                                           the calls that follow are lent this many words of the record
 //     t   bytes up to the line's end, not numbers         prints them: what the lines that follow are about
 // Where a line is none of these the program says so and ends.
+#![tactic(auto)]
+
 mod ask;
 mod edit;
 mod lent;
@@ -32,7 +34,7 @@ use test_support::text;
 const MOST_COMMANDS: u64 = 1_000_000;
 
 // How many words the calls are lent from now on; or that the line can't be read.
-#[derive(Drop)]
+#[derive(Clone, Copy)]
 enum Width {
     Words(usize),
     Nothing,

@@ -1,4 +1,6 @@
 // The set library at the borders of its words: for each width, and each i there, the sets {i} and {0, .., i} and what the library says of them.
+#![tactic(auto)]
+
 ghost use Rattle.std.specs.Prelude.{◌≡◌, true};
 
 use sets::Item;
@@ -7,7 +9,7 @@ use sets_256::Set256;
 use test_support::{number, text};
 
 // What a line says of a set and of one that may hold it.
-#[derive(Drop)]
+#[derive(Clone, Copy)]
 struct Row {
     contains: bool,
     count: usize,

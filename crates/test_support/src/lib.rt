@@ -1,4 +1,6 @@
 // What the test programs share: how a case is printed, and the digest that stands for the words, or the bytes, that a call left.
+#![tactic(auto)]
+
 mod bytes;
 mod mixing;
 mod show;

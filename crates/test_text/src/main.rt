@@ -1,5 +1,7 @@
 // Reads cases from standard input and prints the reader's answer to each, with a digest of the words that it was lent.
 // A case is a line with the lengths of its text and of its buffer, each in four hexadecimal digits, as `001f,0200`, and then the text.
+#![tactic(auto)]
+
 ghost use Rattle.std.specs.Prelude.{◌≡◌, length};
 
 use libc::STDIN_FILENO;

@@ -6,7 +6,7 @@ ghost use Rattle.stores.specs.Stores.{put_at};
 use crate::digit::{digit_at, digit_byte};
 
 // A decimal and the place after it, where there is one.
-#[derive(Drop)]
+#[derive(Clone, Copy)]
 pub enum Decimal {
     Number { value: u64, next: usize },
     Nothing,

@@ -1,4 +1,6 @@
 // Fields of a text, read and written by themselves: fixed bytes, decimals, and the digits of both. specs/ says what each field is.
+#![tactic(auto)]
+
 mod decimal;
 mod digit;
 mod field;

@@ -1,4 +1,6 @@
 // Reads a crew text into a lent buffer of 512 words. specs/ has the text's form and the order of its faults.
+#![tactic(auto)]
+
 ghost use Rattle.std.specs.Prelude.{◌≡◌, ◌≤◌, length};
 ghost use Rattle.text_crew.specs.Reader.{after_rows, read_result, read_crew, rows_to};
 
@@ -18,7 +20,7 @@ pub const SPACE: usize = 16385;
 
 // A refusal's number and zeros, or 0 with n and m.
 #[repr(C)]
-#[derive(Drop)]
+#[derive(Clone, Copy)]
 pub struct CrewRead {
     pub code: u64,
     pub n: u64,

@@ -7,7 +7,7 @@ use tables::store256;
 use text_lines::{Row, read_row};
 use text_sets::hexadecimal_set;
 
-#[derive(Drop)]
+#[derive(Clone, Copy)]
 pub enum RowsEnd {
     // the place after the last row
     End(usize),

@@ -5,7 +5,7 @@ ghost use Rattle.text_lines.specs.Lines.{header_at, limited};
 use limits::limits_kept;
 use text::{Decimal, Field, read_decimal, read_fixed, read_line_end};
 
-#[derive(Drop)]
+#[derive(Clone, Copy)]
 pub enum Header {
     // n, m and the place after the line
     Crew { n: u64, m: u64, next: usize },

@@ -5,7 +5,7 @@ ghost use Rattle.text_lines.specs.Lines.{row_digits_at};
 use text::{Decimal, Field, read_decimal, read_fixed, read_line_end};
 use text_sets::read_hexadecimal;
 
-#[derive(Drop)]
+#[derive(Clone, Copy)]
 pub enum Row {
     // where the digits of the set stand
     Digits(usize),

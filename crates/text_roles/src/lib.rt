@@ -1,4 +1,6 @@
 // The lines in which the lister prints the roles of a record, and a refusal, written into bytes.
+#![tactic(auto)]
+
 mod head;
 mod lines;
 

@@ -1,4 +1,6 @@
 // Sets in hexadecimal, highest digit first.
+#![tactic(auto)]
+
 ghost use Rattle.std.specs.Prelude.{◌≡◌, ◌+◌, ◌-◌, ◌≤◌, length};
 ghost use Rattle.std.proofs.Math.Bool.{So};
 ghost use Rattle.sets_128.specs.Held.{set128};

@@ -1,4 +1,6 @@
 // The crew text of a record, written into bytes.
+#![tactic(auto)]
+
 ghost use Rattle.std.specs.Prelude.{◌≡◌, List, ℕ, ◌+◌, ◌≤◌, length};
 ghost use Rattle.std.proofs.Math.Bool.{So};
 ghost use Rattle.model.specs.Record.{sound};
