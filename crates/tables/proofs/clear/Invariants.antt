@@ -1,0 +1,16 @@
+-- The words before place i are zero.
+-- Assumes nothing.
+use borrow.Author.Rules.{rules}
+use mathlib.Core.Path.{◌≡◌}
+use native.Mathlib.Omega.{arith}
+use Prim.Native.Nat.{◌-◌, ◌≤◌}
+use lib.ListN.{length, length-set}
+use Rattle.tables.specs.Tables.{ZeroFrom}
+use Rattle.tables.proofs.Clearing.{zeros_none, cleared_more, cleared_all}
+use Rattle.tables.proofs.clear.Given as goal
+
+abbrev pub invariant-loop-i : goal.invariant-loop-i
+invariant-loop-i l = (l.i ≤ length l.ws) × (length l.ws ≡ length l.initial.ws) × ZeroFrom l.ws 0 l.i
+
+abbrev pub decreases-loop-i : goal.decreases-loop-i
+decreases-loop-i l = length l.initial.ws - l.i

@@ -1,0 +1,24 @@
+-- The list so far is the one lent with the first i words of src put in.
+-- Assumes nothing.
+use borrow.Author.Rules.{rules}
+use mathlib.Core.Path.{◌≡◌, refl}
+use native.Mathlib.Omega.{arith}
+use Prim.Native.Nat.{◌-◌, ◌≤◌}
+use lib.ListN.{length, take, length-set}
+use Rattle.stores.specs.Stores.{put_at}
+use Rattle.stores.proofs.Stores.{put_at-take, put_at_taken}
+use Rattle.tables.proofs.copy.Goals as goal
+
+pub loop-i-init : goal.loop-i-init
+unfolding put_at
+loop-i-init c = (search rules, refl, refl)
+
+pub loop-i-preserved : goal.loop-i-preserved
+loop-i-preserved c = (
+  omega arith,
+  simp length-set c.loop-i.invariant.1,
+  put_at-take _ _ _ _ c.loop-i-test.true c.loop-i.invariant.2,
+)
+
+pub returns : goal.returns
+returns c = put_at_taken _ _ _ _ c.loop-i-test.false c.loop-i.invariant.2

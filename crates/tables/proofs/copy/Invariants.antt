@@ -1,0 +1,16 @@
+-- The list so far is the one lent with the first i words of src put in.
+-- Assumes nothing.
+use borrow.Author.Rules.{rules}
+use mathlib.Core.Path.{◌≡◌, refl}
+use native.Mathlib.Omega.{arith}
+use Prim.Native.Nat.{◌-◌, ◌≤◌}
+use lib.ListN.{length, take, length-set}
+use Rattle.stores.specs.Stores.{put_at}
+use Rattle.stores.proofs.Stores.{put_at-take, put_at_taken}
+use Rattle.tables.proofs.copy.Given as goal
+
+abbrev pub invariant-loop-i : goal.invariant-loop-i
+invariant-loop-i l = (l.i ≤ length l.src) × (length l.ws ≡ length l.initial.ws) × (l.ws ≡ put_at l.initial.ws l.at (take l.i l.src))
+
+abbrev pub decreases-loop-i : goal.decreases-loop-i
+decreases-loop-i l = length l.src - l.i

@@ -1,0 +1,25 @@
+-- The words before place i that differ have left a bit.
+-- Assumes nothing.
+use borrow.Author.Rules.{rules}
+use mathlib.Core.Path.{◌≡◌, refl, sym}
+use native.Mathlib.Omega.{arith}
+use Prim.Native.Nat.{◌+◌, ◌-◌, ◌≤◌}
+use lib.Dec.{eqb}
+use lib.ListN.{length, get_or}
+use Rattle.sets.specs.Truth.{all}
+use Rattle.sets.proofs.Truth.{all_none}
+use Rattle.sets.proofs.Compare.{differ_more}
+use Rattle.tables.proofs.equal_at.Goals as goal
+
+pub loop-i-init : goal.loop-i-init
+loop-i-init c = (search rules, sym (all_none _))
+
+pub loop-i-preserved : goal.loop-i-preserved
+loop-i-preserved c = (
+  search rules,
+  differ_more c.loop-i.differing (get_or c.args.ws.now (c.args.at + c.loop-i.i) 0) (get_or c.args.src.now c.loop-i.i 0) _ _
+      c.loop-i.invariant.1 refl,
+)
+
+pub returns : goal.returns
+returns c = let e : c.loop-i.i ≡ length c.args.src.now = omega arith in rw e at c.loop-i.invariant.1

@@ -1,0 +1,18 @@
+-- The words before place i that differ have left a bit.
+-- Assumes nothing.
+use borrow.Author.Rules.{rules}
+use mathlib.Core.Path.{◌≡◌, refl, sym}
+use native.Mathlib.Omega.{arith}
+use Prim.Native.Nat.{◌+◌, ◌-◌, ◌≤◌}
+use lib.Dec.{eqb}
+use lib.ListN.{length, get_or}
+use Rattle.sets.specs.Truth.{all}
+use Rattle.sets.proofs.Truth.{all_none}
+use Rattle.sets.proofs.Compare.{differ_more}
+use Rattle.tables.proofs.equal_at.Given as goal
+
+abbrev pub invariant-loop-i : goal.invariant-loop-i
+invariant-loop-i l = (l.i ≤ length l.src) × (eqb l.differing 0 ≡ all l.i (λ k. eqb (get_or l.ws (l.at + k) 0) (get_or l.src k 0)))
+
+abbrev pub decreases-loop-i : goal.decreases-loop-i
+decreases-loop-i l = length l.src - l.i
