@@ -16,6 +16,10 @@ said_no {r} e h = sym e ∙ not-true r h
 pub said_yes : {r b : Bool} → r ≡ b → not r ≡ false → b ≡ true
 said_yes {r} e h = sym e ∙ not-false r h
 
+-- what the answer of f says of what f promises
+pub as_told : {r b t : Bool} → r ≡ b → r ≡ t → b ≡ t
+as_told e h = sym e ∙ h
+
 -- no is told where something does not hold
 pub no_of {ℓ} : {A : Type ℓ} → (A → ⊥) → So false ↔ A
 no_of d = (λ t. absurd (So-not refl t), λ a. absurd (d a))

@@ -1,0 +1,16 @@
+-- The words below 2 i are shuffled.
+-- Assumes nothing.
+use borrow.Author.Rules.{rules}
+use mathlib.Core.Path.{◌≡◌}
+use native.Mathlib.Omega.{arith}
+use Prim.Native.Nat.{◌+◌, ◌-◌, ◌*◌, ◌≤◌}
+use lib.ListN.{length, length-set}
+use Rattle.blocks.specs.Shuffles.{Shuffled}
+use Rattle.blocks.proofs.Shuffling.{shuffled_none, shuffled_more}
+use Rattle.blocks.proofs.shuffle.Given as goal
+
+abbrev pub invariant-loop-i : goal.invariant-loop-i
+invariant-loop-i l = (l.i ≤ 32) × (length l.to ≡ 64) × Shuffled (2 * l.i) l.s l.m l.from l.to
+
+abbrev pub decreases-loop-i : goal.decreases-loop-i
+decreases-loop-i l = 32 - l.i

@@ -1,0 +1,34 @@
+-- The entries of the words before j are filled.
+-- Assumes nothing.
+use borrow.Author.Rules.{rules}
+use mathlib.Core.Path.{◌≡◌}
+use native.Mathlib.Omega.{arith}
+use Prim.Native.Nat.{◌+◌, ◌-◌, ◌*◌, ◌≤◌, min}
+use lib.ListN.{length}
+use Rattle.sets.specs.Sets.{has, collect}
+use Rattle.model.specs.Lists.{set_at}
+use Rattle.tables.specs.Tables.{Filled}
+use Rattle.tables.proofs.Tables.{filled_none}
+use Rattle.columns.proofs.all.fill_columns_of.Goals as goal
+
+pub loop-j-init : goal.loop-j-init
+loop-j-init c = let none : min (64 * 0) c.args.c ≡ 0 = omega arith in
+    (search rules, search rules, rw none (filled_none 2 _ _))
+
+pub fill_word-requires : goal.fill_word-requires
+fill_word-requires c = (search rules, search rules, search rules, omega arith, search rules, omega arith)
+
+pub loop-j-preserved : goal.loop-j-preserved
+loop-j-preserved c = let l = c.loop-j in
+    let a = c.args in
+    let now : min (64 * l.j) a.c ≡ 64 * l.j = omega arith in
+    let next : 64 * l.j + min (a.c - 64 * l.j) 64 ≡ min (64 * (l.j + 1)) a.c = omega arith in
+    (omega arith, omega arith, rw next at (c.fill_word.ensures a.out.now (rw now at l.invariant.2)))
+
+pub shape_of-out : goal.shape_of-out
+shape_of-out c = omega arith
+
+pub returns : goal.returns
+returns c = let a = c.args in
+    let whole : min (64 * c.loop-j.j) a.c ≡ a.c = omega arith in
+    rw whole at c.loop-j.invariant.2

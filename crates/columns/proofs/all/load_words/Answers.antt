@@ -1,0 +1,39 @@
+-- The words before q are loaded.
+-- Assumes nothing.
+use borrow.Author.Rules.{rules}
+use mathlib.Core.Path.{◌≡◌}
+use native.Mathlib.Omega.{arith}
+use Prim.Native.Nat.{◌+◌, ◌-◌, ◌*◌, ◌≤◌, ◌<◌}
+use lib.ListN.{length, get_or, length-set}
+use Rattle.columns.specs.Loading.{Loaded}
+use Rattle.columns.proofs.Gathering.{loaded_none, loaded_more}
+use Rattle.columns.proofs.all.load_words.Goals as goal
+use Rattle.columns.proofs.all.load_words.Goals.{In-loop-q}
+
+room : (c : In-loop-q) → c.args.w * (c.args.from + c.loop-q.q) + c.args.j < length c.args.table.now
+room c = c.requires.3 c.loop-q.q (search rules)
+
+pub loop-q-init : goal.loop-q-init
+loop-q-init c = (search rules, search rules, loaded_none _ _)
+
+pub overflow_mul-block : goal.overflow_mul-block
+overflow_mul-block c = omega (arith, room (goal.at.overflow_mul-block c).In-loop-q)
+
+pub overflow_add-block-in-loop-q : goal.overflow_add-block-in-loop-q
+overflow_add-block-in-loop-q c = omega (arith, room (goal.at.overflow_add-block-in-loop-q c).In-loop-q)
+
+pub offset_bounds-table-w : goal.offset_bounds-table-w
+offset_bounds-table-w c = omega (arith, room (goal.at.offset_bounds-table-w c).In-loop-q)
+
+pub bounds-table-w : goal.bounds-table-w
+bounds-table-w c = room (goal.at.bounds-table-w c).In-loop-q
+
+pub loop-q-preserved : goal.loop-q-preserved
+loop-q-preserved c = (search rules, simp length-set (omega arith), loaded_more _ _ _ _ (search rules) c.loop-q.invariant.2)
+
+pub shape_of-block : goal.shape_of-block
+shape_of-block c = omega arith
+
+pub returns : goal.returns
+returns c = let e : c.loop-q.q ≡ c.args.count = omega arith in
+    rw e at c.loop-q.invariant.2

@@ -1,0 +1,17 @@
+-- The sets before q that lie within s are gathered.
+-- Assumes nothing.
+use borrow.Author.Rules.{rules}
+use mathlib.Core.Path.{◌≡◌, sym, ◌∙◌}
+use native.Mathlib.Omega.{arith}
+use Prim.Native.Nat.{◌+◌, ◌-◌, ◌*◌, ◌≤◌}
+use Rattle.sets_256.specs.Held.{set256}
+use Rattle.sets.specs.Sets.{subset, collect}
+use Rattle.sets.proofs.Order.{collect-zero, collect-bit}
+use Rattle.model.specs.Lists.{set_at}
+use Rattle.hierarchy.proofs.lower.gather_within.Given as goal
+
+abbrev pub invariant-loop-q : goal.invariant-loop-q
+invariant-loop-q l = (l.q ≤ l.count) × (l.bits ≡ collect l.q (λ i. subset (set_at 4 l.table (4 * (l.from + i))) (set256 l.s)))
+
+abbrev pub decreases-loop-q : goal.decreases-loop-q
+decreases-loop-q l = l.count - l.q

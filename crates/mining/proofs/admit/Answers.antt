@@ -1,0 +1,21 @@
+-- A set that is found is listed already.
+-- Assumes nothing.
+use native.Mathlib.Omega.{arith}
+use Rattle.mining.proofs.Placing.{holds-listed, found_listed}
+use Rattle.mining.proofs.Seeing.{seen_placed, admits_adds}
+use borrow.Author.Rules.{rules}
+use Rattle.mining.proofs.admit.Goals as goal
+
+pub returns-in_default : goal.returns-in_default
+returns-in_default c = let given = c.requires in (
+  holds-listed given.0 given.1 (found_listed _ _ _ (rw c.in_default.is at c.search.ensures)),
+  seen_placed given.2 _ c.remember.ensures (let k = c.remember.auto in omega (arith, given.2.size)),
+)
+
+pub put-requires : goal.put-requires
+put-requires c = record { framed = c.requires.0; between = rw c.in-Missing.is at c.search.ensures }
+
+pub returns : goal.returns
+returns c = let given = c.requires in
+    admits_adds _ c.put.new.table c.remember.new.seen c.put.result c.put.ensures
+    (seen_placed given.2 _ c.remember.ensures (let k = c.remember.auto in omega (arith, given.2.size)))

@@ -1,0 +1,19 @@
+-- What the words that are left add to d is the whole digest.
+-- Assumes nothing.
+use borrow.Author.Rules.{rules}
+use mathlib.Core.Path.{◌≡◌, sym, ◌∙◌}
+use Prim.Native.Nat.{◌-◌, ◌≤◌}
+use native.Mathlib.Omega.{arith}
+use lib.ListN.{length, drop}
+use Rattle.test_support.specs.Digest.{digest_from, digest_of}
+use Rattle.test_support.proofs.Digesting.{all_left, one_less, none_left}
+use Rattle.test_support.proofs.mixing.digest.Goals as goal
+
+pub loop-i-init : goal.loop-i-init
+loop-i-init c = (omega arith, all_left _)
+
+pub loop-i-preserved : goal.loop-i-preserved
+loop-i-preserved c = (omega arith, cc (one_less c.loop-i.d c.args.ws.now c.loop-i.i (omega arith)))
+
+pub returns : goal.returns
+returns c = sym (none_left c.loop-i.d c.args.ws.now c.loop-i.i (omega arith)) ∙ c.loop-i.invariant.1

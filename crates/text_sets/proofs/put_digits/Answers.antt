@@ -1,0 +1,30 @@
+-- What is left to write, put into the list so far, is what was to be written.
+-- Assumes nothing.
+use Rattle.text_sets.proofs.Hexadecimals.{hex_stored, hex_nibble, hex_nibble_lt, hex_store}
+use native.Mathlib.Nat.{add-zero, sub-zero}
+use Prim.Native.Nat.{◌+◌, ◌-◌, ◌≤◌}
+use Rattle.text.specs.Digits.{digit_byte}
+use Rattle.text_sets.specs.Hexadecimal.{hexadecimal}
+use Rattle.stores.specs.Stores.{put_at}
+use borrow.Author.Rules.{rules}
+use lib.ListN.{length, length-set}
+use mathlib.Core.Path.{◌≡◌, refl, ◌∙◌, ap}
+use native.Mathlib.Omega.{arith}
+use Rattle.text_sets.proofs.put_digits.Goals as goal
+
+pub loop-i-init : goal.loop-i-init
+loop-i-init c = (omega arith, refl, rw (add-zero, sub-zero) refl)
+
+pub digit_byte-requires : goal.digit_byte-requires
+digit_byte-requires c = let a = c.args in
+    hex_nibble_lt a.w (a.d - 1 - c.loop-i.i)
+
+pub loop-i-preserved : goal.loop-i-preserved
+loop-i-preserved c = let i = c.loop-i.invariant in (
+  omega arith,
+  simp length-set i.1,
+  hex_store _ _ _ _ _ _ _ _ c.loop-i-test.true refl (c.digit_byte.ensures ∙ ap digit_byte (hex_nibble _ _)) i.2,
+)
+
+pub returns : goal.returns
+returns c = record { value = omega arith; out_after = hex_stored _ _ _ _ _ _ c.loop-i-test.false c.loop-i.invariant.2 }
