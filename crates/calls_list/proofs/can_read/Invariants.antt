@@ -10,7 +10,7 @@ use Rattle.calls_list.proofs.Reading.{readable_not, readable_all, kinds_none, ki
 use Rattle.calls_list.proofs.can_read.Given as goal
 
 abbrev pub invariant-loop-i : goal.invariant-loop-i
-invariant-loop-i l = (i ≤ l.n) × So (all i (λ i. ltb (get_or l.calls (7 * i) 0) 4))
+invariant-loop-i l = (l.i ≤ l.n) × So (all l.i (λ i. ltb (get_or l.calls (7 * i) 0) 4))
 
 abbrev pub decreases-loop-i : goal.decreases-loop-i
 decreases-loop-i l = l.n - l.i

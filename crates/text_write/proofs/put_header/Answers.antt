@@ -1,0 +1,13 @@
+-- The header is a first line.
+-- Assumes nothing.
+use borrow.Author.Rules.{rules}
+use native.Mathlib.Omega.{arith}
+use Rattle.text_lines.specs.Format.{header_line}
+use Rattle.text_write.proofs.put_header.Goals as goal
+
+pub put_first_line-requires : goal.put_first_line-requires
+put_first_line-requires c = omega arith
+
+pub returns : goal.returns
+unfolding header_line
+returns c = record { value = c.put_first_line.ensures.value; out_after = c.put_first_line.ensures.out_after }

@@ -1,0 +1,18 @@
+-- The header and the lines of the users below u are counted.
+-- Assumes nothing.
+use borrow.Author.Rules.{rules}
+use mathlib.Core.Path.{◌≡◌, sym, ◌∙◌}
+use mathlib.Core.List.{List}
+use Prim.Native.Nat.{ℕ, ◌+◌, ◌-◌, ◌*◌, ◌≤◌}
+use native.Mathlib.Omega.{arith}
+use lib.ListN.{length}
+use Rattle.text_lines.specs.Format.{header_line, row_lines}
+use Rattle.text_lines.proofs.Lengths.{length_text}
+use Rattle.text_write.proofs.Puts.{sized_none, sized_more}
+use Rattle.text_write.proofs.text_length.Given as goal
+
+abbrev pub invariant-loop-u : goal.invariant-loop-u
+invariant-loop-u l = (l.u ≤ l.n) × (l.size ≤ 47 + 86 * l.u) × ((rows : List ℕ) → l.size ≡ length (header_line l.n l.m) + length (row_lines l.m rows l.u))
+
+abbrev pub decreases-loop-u : goal.decreases-loop-u
+decreases-loop-u l = l.n - l.u
