@@ -13,8 +13,7 @@ use Rattle.text_crew.proofs.read_crew.Goals.{In-Crew}
 
 -- the header's fields
 header : (c : In-Crew)
-    → let v = c.n-1.given.0 in
-    header_at c.args.text.now ≡ Crew v.0 v.1.0 v.1.1.0
+    → header_at c.args.text.now ≡ Crew c.in-Crew.n c.in-Crew.m c.in-Crew.next
 header c = sym c.read_header.ensures ∙ c.in-Crew.is
 
 pub returns-then-rows-ne-BUFFER : goal.returns-then-rows-ne-BUFFER

@@ -8,6 +8,8 @@ use borrow.Author.Tests.{not-true, not-false}
 use Rattle.sets_128.specs.Held.{set128}
 use Rattle.hierarchy.proofs.Sieving.{fewer, not_empty, is_empty_lem}
 use Rattle.hierarchy.proofs.Seeking.{Seeking, sought_absent, sought_start, sought_more, sought_all}
+use Rattle.std.proofs.Common.{ap}
+use mathlib.Core.Bool.{not}
 use Rattle.hierarchy.proofs.seniors.seniors_of.Goals as goal
 
 pub returns-then-not-contains : goal.returns-then-not-contains
@@ -17,7 +19,7 @@ pub loop-rest-init : goal.loop-rest-init
 loop-rest-init c = λ R e h. sought_start _ R _ h _ _ c.empty-found.ensures e
 
 pub lowest_item-i-requires : goal.lowest_item-i-requires
-lowest_item-i-requires c = not_empty _ _ c.is_empty.ensures c.loop-rest-test.true
+lowest_item-i-requires c = not_empty _ _ c.is_empty.ensures (ap not c.loop-rest-test.true)
 
 pub overflow_mul-i : goal.overflow_mul-i
 overflow_mul-i c = let l = c.lowest_item-i.ensures.small in omega arith
@@ -39,4 +41,4 @@ pub returns : goal.returns
 returns c = let here = sym c.contains.ensures ∙ c.if-not-contains.false in
     let start = rw c.below.ensures at c.difference-rest.ensures in
     sought_all _ _ _ here _ _ (c.loop-rest.invariant _ start here)
-    (is_empty_lem _ _ c.is_empty.ensures c.loop-rest-test.false)
+    (is_empty_lem _ _ c.is_empty.ensures (ap not c.loop-rest-test.false))

@@ -12,13 +12,15 @@ use Rattle.sets_128.proofs.Held.{held128}
 use Rattle.sets.proofs.Order.{∖-lt}
 use Rattle.hierarchy.specs.Tables.{less_all}
 use Rattle.hierarchy.proofs.Sieving.{less_one, less_none, fewer, not_empty, is_empty_lem}
+use Rattle.std.proofs.Common.{ap}
+use mathlib.Core.Bool.{not}
 use Rattle.hierarchy.proofs.sieve.less128.Goals as goal
 
 pub loop-rest-init : goal.loop-rest-init
 loop-rest-init c = (search (words, held128), refl)
 
 pub lowest_item-j-requires : goal.lowest_item-j-requires
-lowest_item-j-requires c = not_empty _ _ c.is_empty.ensures c.loop-rest-test.true
+lowest_item-j-requires c = not_empty _ _ c.is_empty.ensures (ap not c.loop-rest-test.true)
 
 pub overflow_mul-j : goal.overflow_mul-j
 overflow_mul-j c = let l = c.lowest_item-j.ensures.small in omega arith
@@ -39,4 +41,4 @@ loop-rest-preserved c = let item = c.lowest_item-j.ensures in
 
 pub returns : goal.returns
 returns c = let inv = c.loop-rest.invariant in
-    less_none 2 _ _ _ inv.0 (is_empty_lem _ _ c.is_empty.ensures c.loop-rest-test.false) ∙ sym inv.1
+    less_none 2 _ _ _ inv.0 (is_empty_lem _ _ c.is_empty.ensures (ap not c.loop-rest-test.false)) ∙ sym inv.1

@@ -5,13 +5,15 @@ use native.Mathlib.Omega.{arith}
 use lib.Count.{ones}
 use Rattle.sets_128.specs.Held.{set128}
 use Rattle.hierarchy.proofs.Sieving.{Sieved, sieved_start, sieved_more, sieved_all, fewer_both, not_empty, is_empty_lem}
+use mathlib.Core.Path.{ap}
+use mathlib.Core.Bool.{not}
 use Rattle.hierarchy.proofs.sieve.maximal_of.Goals as goal
 
 pub loop-rest-init : goal.loop-rest-init
 loop-rest-init c = sieved_start _ _ _ c.empty-found.ensures
 
 pub highest_item-k-requires : goal.highest_item-k-requires
-highest_item-k-requires c = not_empty _ _ c.is_empty.ensures c.loop-rest-test.true
+highest_item-k-requires c = not_empty _ _ c.is_empty.ensures (ap not c.loop-rest-test.true)
 
 pub overflow_mul-k : goal.overflow_mul-k
 overflow_mul-k c = let l = c.highest_item-k.ensures.small in omega arith
@@ -27,4 +29,4 @@ loop-rest-preserved c = sieved_more _ _ _ _ _ _ _ _ _ c.loop-rest.invariant c.hi
     c.difference.ensures c.remove-rest.ensures
 
 pub returns : goal.returns
-returns c = sieved_all _ _ _ _ c.loop-rest.invariant (is_empty_lem _ _ c.is_empty.ensures c.loop-rest-test.false)
+returns c = sieved_all _ _ _ _ c.loop-rest.invariant (is_empty_lem _ _ c.is_empty.ensures (ap not c.loop-rest-test.false))

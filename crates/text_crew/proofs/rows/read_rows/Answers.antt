@@ -14,6 +14,7 @@ use lib.ListN.{length}
 use Rattle.sets_256.specs.Held.{set256}
 use Rattle.sets.specs.Sets.{collect}
 use native.Mathlib.Omega.{arith}
+use mathlib.Core.Bool.{not}
 use Rattle.text_crew.proofs.rows.read_rows.Goals as goal
 use Rattle.text_crew.proofs.rows.read_rows.Goals.{At-loop-u, In-Digits}
 
