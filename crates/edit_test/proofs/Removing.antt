@@ -32,7 +32,7 @@ module _ (st : State) (ws : List ℕ) (lim : Limits st) (e : ws ≡ built st) wh
         few_permissions = lim.permissions_most;
         permissions_below = b;
         crew_rows = λ u l. ap (λ (x : List ℕ). set_at 4 x (crew_start + 4 * u)) e ∙ read_row st lim u (lt_of_lt_of_le l lim.users_most);
-        user_roles_lem = ix.user_roles;
+        user_roles = ix.user_roles;
         permission_roles = held;
       }
 

@@ -27,5 +27,5 @@ pub record Asked (ρ : Roles) (ws index : List ℕ) (ps : ℕ) : Type 0 where
   pub few_permissions : ρ.permissions ≤ 256
   pub permissions_below : ps < 2 ^ ρ.permissions
   pub crew_rows : (u : ℕ) → u < ρ.users → set_at 4 ws (crew_start + 4 * u) ≡ get_or ρ.granted u 0
-  pub user_roles_lem : UserRoles ρ index
+  pub user_roles : UserRoles ρ index
   pub permission_roles : HoldersFor ρ ps index

@@ -71,7 +71,7 @@ module _ (index part : List ℕ) (size : length index ≡ index_length) (full : 
       record {
         size = ap length is ∙ length-put_at index holders_start part ∙ size;
         lower_roles = λ k l. ap (λ (x : List ℕ). set_at 2 x (2 * k)) (same lower_start (omega arith)) ∙ ix.lower_roles k l;
-        user_roles_lem = λ u l. ap (λ (x : List ℕ). set_at 2 x (2 * u)) (same roles_start (omega arith)) ∙ ix.user_roles u l;
+        user_roles = λ u l. ap (λ (x : List ℕ). set_at 2 x (2 * u)) (same roles_start (omega arith)) ∙ ix.user_roles u l;
         role_users = λ k l. ap (λ (x : List ℕ). set_at 2 x (2 * k)) (same users_start (omega arith)) ∙ ix.role_users k l;
       }
 

@@ -163,7 +163,7 @@ module _ (st : State) (crew : List ℕ) (at n : ℕ) (table : List ℕ) (c : ℕ
   tabled low roles users hl hr hu =
       record {
         lower_roles = λ k l. hl k (rw source_count at l);
-        user_roles_lem = λ u l. hr u (rw src.users at l);
+        user_roles = λ u l. hr u (rw src.users at l);
         role_users = λ k l. hu k (rw source_count at l);
       }
 
@@ -179,7 +179,7 @@ indexed ρ index low roles users li ll lr lu t =
     record {
       size = length-put_at second roles_start roles ∙ e2;
       lower_roles = rw (part_before second roles_start roles lower_start 256 (omega arith), part_stored first lower_start low 256 ll (omega arith)) t.lower_roles;
-      user_roles_lem = rw (part_stored second roles_start roles 256 lr (omega arith)) t.user_roles;
+      user_roles = rw (part_stored second roles_start roles 256 lr (omega arith)) t.user_roles;
       role_users =
           rw (part_behind second roles_start roles users_start 256 (omega arith), part_behind first lower_start low users_start 256 (omega arith), part_stored index users_start users 256 lu (omega arith))
           t.role_users;

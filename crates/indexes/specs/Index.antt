@@ -53,5 +53,5 @@ AllHolders ρ ws = HoldsSets 2 ρ.permissions (roles_of_permission ρ) (take hol
 pub record Indexed (ρ : Roles) (ws : List ℕ) : Type 0 where
   pub size : length ws ≡ index_length
   pub lower_roles : LowerRoles ρ ws
-  pub user_roles_lem : UserRoles ρ ws
+  pub user_roles : UserRoles ρ ws
   pub role_users : RoleUsers ρ ws

@@ -50,5 +50,5 @@ pub record Zeros (n : ℕ) (ws : List ℕ) : Type 0 where
 -- the three tables that an index is made of
 pub record Tabled (ρ : Roles) (low roles users : List ℕ) : Type 0 where
   pub lower_roles : HoldsSets 2 (candidate_count ρ) (lower ρ) low
-  pub user_roles_lem : HoldsSets 2 ρ.users (roles_of_user ρ) roles
+  pub user_roles : HoldsSets 2 ρ.users (roles_of_user ρ) roles
   pub role_users : HoldsSets 2 (candidate_count ρ) (authorised_users ρ) users

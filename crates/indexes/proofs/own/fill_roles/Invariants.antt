@@ -1,0 +1,25 @@
+-- The entries of the users before u are filled, and the own roles among them are known.
+-- Assumes nothing.
+use borrow.Author.Rules.{rules}
+use mathlib.Core.Path.{◌≡◌, ◌∙◌}
+use native.Mathlib.Omega.{arith}
+use Prim.Native.Nat.{◌-◌, ◌^◌, ◌≤◌, ◌<◌}
+use lib.ListN.{length}
+use Rattle.sets_128.specs.Held.{set128}
+use Rattle.sets.proofs.Written.{words}
+use Rattle.sets_128.proofs.Held.{held128}
+use Rattle.model.specs.Indexes.{roles_of_user}
+use Rattle.model.specs.State.{State, roles_of}
+use Rattle.tables.specs.Tables.{Filled}
+use Rattle.tables.proofs.Tables.{filled_none, filled_more}
+use Rattle.indexes.specs.Tables.{Source, Owned}
+use Rattle.indexes.proofs.Sources.{source_row}
+use Rattle.indexes.proofs.Owning.{own_start}
+use Rattle.indexes.proofs.own.fill_roles.Given as goal
+
+abbrev pub invariant-loop-u : goal.invariant-loop-u
+invariant-loop-u l = (l.u ≤ l.n) × (length l.low ≡ 256) × (length l.out ≡ 256)
+    × ((st : State) → Source st l.crew l.at l.n l.table l.c → Owned st l.u l.low (set128 l.own.roles) (set128 l.own.users) × Filled 2 l.u (roles_of_user (roles_of st)) l.initial.out l.out)
+
+abbrev pub decreases-loop-u : goal.decreases-loop-u
+decreases-loop-u l = l.n - l.u
