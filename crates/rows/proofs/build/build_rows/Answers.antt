@@ -1,0 +1,10 @@
+-- The roles of the standing set have no rows yet, and the others none ever.
+-- Assumes nothing.
+use borrow.Author.Rules.{rules}
+use native.Mathlib.Omega.{arith}
+use Rattle.rows.proofs.Building.{rows_built}
+use Rattle.rows.proofs.build.build_rows.Goals as goal
+
+pub returns : goal.returns
+returns c = λ st lim b ix. rows_built st lim _ _ b ix _ _ _ c.args.seniors.now _ c.load128-standing.ensures c.fill_uppers.ensures
+    c.requires.by_index c.fill_columns.ensures (omega (arith, c.requires.seniors_len, c.fill_columns.auto)) c.fill_lowers.ensures

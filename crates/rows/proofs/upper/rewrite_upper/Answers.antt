@@ -1,0 +1,9 @@
+-- Both entries of the row are those of the new building.
+-- Assumes nothing.
+use borrow.Author.Rules.{rules}
+use Rattle.rows.proofs.Rewriting.{upper_rewritten}
+use Rattle.rows.proofs.upper.rewrite_upper.Goals as goal
+
+pub returns : goal.returns
+returns c = λ old st s p t to q. upper_rewritten old st p t _ _ _ to s _ _ _ _ _ c.requires.i_bound c.juniors_of-juniors.ensures c.permissions_of-permissions.ensures
+    c.store128.ensures c.store256.ensures q
