@@ -1,0 +1,9 @@
+-- The rows of k and of its neighbours are written anew.
+-- Assumes nothing.
+use borrow.Author.Rules.{rules}
+use Rattle.edit_rows.proofs.Changing.{put_at_lem}
+use Rattle.edit_rows.proofs.change.put_back_at.Goals as goal
+
+pub returns : goal.returns
+returns c = λ st ready. put_at_lem st _ _ _ _ _ ready _ c.requires.k_bound _ _ _ _ _ _ c.load128.ensures c.insert-more.ensures
+    c.insert.ensures c.insert-2.ensures c.change_standing.ensures
