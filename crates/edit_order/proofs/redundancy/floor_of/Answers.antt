@@ -1,0 +1,12 @@
+-- 1 exactly where k is counted.
+-- Assumes nothing.
+use borrow.Author.Rules.{rules}
+use mathlib.Core.Path.{sym, ◌∙◌}
+use Rattle.sets.proofs.Truth.{if-true, if-false}
+use Rattle.edit_order.proofs.redundancy.floor_of.Goals as goal
+
+pub returns-then-contains : goal.returns-then-contains
+returns-then-contains c = sym (if-true _ 1 0 (sym c.contains.ensures ∙ c.if-contains.true))
+
+pub returns : goal.returns
+returns c = sym (if-false _ 1 0 (sym c.contains.ensures ∙ c.if-contains.false))

@@ -1,0 +1,14 @@
+-- The three sums together.
+-- Assumes nothing.
+use borrow.Author.Rules.{rules}
+use mathlib.Core.Path.{refl}
+use native.Mathlib.Omega.{arith}
+use Rattle.edit_trials.proofs.Counting.{taken_counts}
+use Rattle.edit_trials.proofs.taken.taken.Goals as goal
+
+pub returns : goal.returns
+returns c = record {
+  few = record { roles = omega arith; members = c.taken_over128-members.ensures.upper_bound; permissions = c.taken_over256-permissions.ensures.upper_bound; links = c.taken_over128-links.ensures.upper_bound };
+  result_value = taken_counts _ _ _ _ _ _ _ _ _ c.load128-users.ensures c.load256-own.ensures refl c.taken_over128-members.ensures.value c.taken_over256-permissions.ensures.value
+      c.taken_over128-links.ensures.value;
+}

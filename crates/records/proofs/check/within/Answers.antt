@@ -1,0 +1,23 @@
+-- The two tests, one after the other.
+-- Assumes nothing.
+use borrow.Author.Rules.{rules}
+use borrow.Author.Tests.{not-false}
+use mathlib.Core.Path.{sym, ◌∙◌}
+use native.Mathlib.Omega.{arith}
+use Rattle.model.proofs.Record.{within_limits_iff}
+use Rattle.records.proofs.Judging.{first_fails, first_holds}
+use Rattle.records.proofs.check.within.Goals as goal
+use Rattle.std.proofs.Common.{ap}
+use mathlib.Core.Bool.{not}
+
+pub returns-then-not-limits_kept : goal.returns-then-not-limits_kept
+returns-then-not-limits_kept c = first_fails _ _ _ c.limits_kept.ensures (ap not c.if-not-limits_kept.true)
+
+pub rows_within-requires : goal.rows_within-requires
+rows_within-requires c = let k = (within_limits_iff _ _).0 (sym c.limits_kept.ensures ∙ c.if-not-limits_kept.false) in
+    let a = k.1 in
+    let b = k.3 in
+    record { n_in_bounds = omega arith; m_bound = omega arith }
+
+pub returns : goal.returns
+returns c = first_holds _ _ _ _ c.limits_kept.ensures (ap not c.if-not-limits_kept.false) c.rows_within.ensures
