@@ -16,7 +16,7 @@ use call_write::panel_write_crew;
 pub use stream::hand_back_stream;
 use tables::LENGTH;
 use text_crew::read_crew;
-use text_roles::put_refused;
+use text_roles::put_refusal;
 use text_write::LONGEST_WRITTEN;
 
 // Mines a crew list that was read and writes the record's; or the refusal.
@@ -30,7 +30,7 @@ fn mine_back(n: u64, m: u64, crew: &[u64], out: &mut [u8]) -> usize
     let mut rec = [0u64; LENGTH];
     let mined = panel_mine(n, m, crew, &mut rec);
     if mined.code != 0 {
-        return put_refused(out, mined.code);
+        return put_refusal(out, mined.code);
     }
     panel_write_crew(&rec, out).length as usize
 }
@@ -42,7 +42,7 @@ pub fn hand_back(text: &[u8], out: &mut [u8; LONGEST_WRITTEN]) -> usize
     let mut rows = [0u64; 512];
     let read = read_crew(text, &mut rows);
     if read.code != 0 {
-        return put_refused(out, read.code);
+        return put_refusal(out, read.code);
     }
     mine_back(read.n, read.m, &rows[..4 * read.n as usize], out)
 }

@@ -3,6 +3,7 @@ ghost use Rattle.std.specs.Prelude.{◌≡◌, ◌+◌, ◌<◌, ◌≤◌, leng
 ghost use Rattle.model.specs.Lists.{set_at};
 ghost use Rattle.stores.specs.Stores.{put_at};
 ghost use Rattle.text.specs.Decimal.{decimal};
+ghost use Rattle.text_lines.specs.Format.{digits_for};
 ghost use Rattle.text_roles.specs.Lines.{field};
 ghost use Rattle.text_roles.specs.Words.{Limited, words_line, standing_line, words_lines};
 
@@ -19,13 +20,21 @@ pub fn put_number(out: &mut [u8], at: usize, v: u64) -> usize
     put_decimal(out, at, v)
 }
 
+// How many hexadecimal digits a set of items below `size` has.
+fn digits(size: u64) -> usize
+    requires { size ≤ 256 }
+    ensures { result ≡ digits_for size }
+{
+    digits_for(size)
+}
+
 // A comma, and the set at this place of the record.
 fn put_set256(rec: &[u64], place: usize, size: u64, out: &mut [u8], at: usize) -> usize
     requires { (place + 4 ≤ length rec.now) × (size ≤ 256) × (at + 65 ≤ length out.old) }
     ensures { (result ≡ at + length (field size (set_at 4 rec.now place))) × (out.new ≡ put_at out.old at (field size (set_at 4 rec.now place))) × (result ≤ at + 65) }
 {
     let next = put_bytes(out, at, b",");
-    put_hexadecimal(out, next, load256(rec, place), digits_for(size))
+    put_hexadecimal(out, next, load256(rec, place), digits(size))
 }
 
 // The same of a set of items below 128.
@@ -34,7 +43,7 @@ fn put_set128(rec: &[u64], place: usize, size: u64, out: &mut [u8], at: usize) -
     ensures { (result ≡ at + length (field size (set_at 2 rec.now place))) × (out.new ≡ put_at out.old at (field size (set_at 2 rec.now place))) × (result ≤ at + 33) }
 {
     let next = put_bytes(out, at, b",");
-    put_hexadecimal_128(out, next, load128(rec, place), digits_for(size))
+    put_hexadecimal_128(out, next, load128(rec, place), digits(size))
 }
 
 // How many candidates there are, standing or not.

@@ -9,7 +9,7 @@ use Rattle.round_trip.proofs.Handing.{text_refused, text_back}
 use Rattle.round_trip.proofs.hand_back.Goals as goal
 
 pub returns-then-read-ne0 : goal.returns-then-read-ne0
-returns-then-read-ne0 c = let w = first_same _ _ _ _ _ _ (text_refused _ _ _ c.read_crew-read.ensures c.if-read-ne0.true) c.put_refused.ensures in
+returns-then-read-ne0 c = let w = first_same _ _ _ _ _ _ (text_refused _ _ _ c.read_crew-read.ensures c.if-read-ne0.true) c.put_refusal.ensures in
     (w.0, w.1, omega (arith, w.2))
 
 pub overflow_mul-rows : goal.overflow_mul-rows

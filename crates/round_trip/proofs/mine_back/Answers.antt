@@ -17,7 +17,7 @@ pub returns-then-mined-ne0 : goal.returns-then-mined-ne0
 returns-then-mined-ne0 c = let p = c.requires in
     let w =
     first_same _ _ _ _ _ _ (back_refused _ _ _ _ zeros p.so p.crew_len p.so_2 _ _ c.panel_mine-mined.ensures c.if-mined-ne0.true)
-    c.put_refused.ensures in
+    c.put_refusal.ensures in
     (w.0, w.1, omega (arith, w.2))
 
 pub returns : goal.returns

@@ -3,7 +3,7 @@
 use borrow.Author.Rules.{rules}
 use native.Mathlib.Omega.{arith}
 use Rattle.text_roles.proofs.Puts.{refused_put}
-use Rattle.text_roles.proofs.head.put_refused.Goals as goal
+use Rattle.text_roles.proofs.head.put_refusal.Goals as goal
 
 pub put_bytes-number-requires : goal.put_bytes-number-requires
 put_bytes-number-requires c = omega arith
