@@ -117,7 +117,7 @@ def text_cases(rng):
 
 @target("test_worked")
 def worked_cases(rng):
-    """The cases of document 01, lists at its limits, damaged records, crew texts, and lists written back."""
+    """The cases of document 01, lists at its limits, damaged records and crew texts."""
     return worked.files()
 
 
@@ -217,7 +217,7 @@ def refused_weights(script):
     script.review([1000, 1000, 1000, 1000])
 
 
-def worst_lists(script, rng):
+def worst_lists(script, rng, written):
     """7 users who each lack one of 7 permissions, by several weights and tolerances; 128 candidates with m = 256, of 8 users and of 128. Reviews
     follow on what an elimination with other weights left, and on single restorations."""
     ones = (1, 1, 1, 1)
@@ -235,16 +235,18 @@ def worst_lists(script, rng):
         script.mine(n, m, model.crew_words(rows))
         script.eliminate(ones, 1, 1)
         script.review(ones)
-        script.write(len(model.crew_text(n, m, rows)))
+        if written:
+            script.write(len(model.crew_text(n, m, rows)))
     n, m, rows = crews.nested_chain(128, 256)
     script.mine(n, m, model.crew_words(rows))
     script.eliminate(ones, 2, 1)
     script.review(ones)
-    script.write(model.LONGEST_WRITTEN)
-    script.write(model.LONGEST_WRITTEN - 1)
+    if written:
+        script.write(model.LONGEST_WRITTEN)
+        script.write(model.LONGEST_WRITTEN - 1)
 
 
-def other_lengths(script):
+def other_lengths(script, written):
     """Records that are a word short, a word long, and empty: every call is refused with 1, before anything else."""
     words = model.crew_words([3, 6, 7])
     script.mine(3, 3, words)
@@ -261,8 +263,9 @@ def other_lengths(script):
         script.quality([1001, 1, 1, 1])
         script.may(0, 0)
         script.may(9, 9)
-        script.write(21)
-        script.write(0)
+        if written:
+            script.write(21)
+            script.write(0)
         script.serve(3, 3, words, [("strike", 0)])
     script.lend(model.LENGTH)
     script.strike(0)
@@ -292,15 +295,12 @@ def served_lists(script, rng):
     script.serve(3, 3, words, [])
 
 
-@target("test_replay")
-def replay(rng):
-    """Lists of strikes, restorations, eliminations and reviews, good and refused, with the calls that read and damaged records in between; then
-    the lists of guards.py, the worst ones, records of other lengths, and lists served in one go. The last line but one can't be read, so the strike after it is not made."""
+def replayed(rng, writes=None):
+    """The script of `test_replay`; where there is a source `writes`, which moves no other call, the writer is called in between."""
     script = Script()
-    writes = random.Random("lists written back")  # a source of its own, which moves no other call
 
     def write(often):
-        if writes.random() < often:
+        if writes and writes.random() < often:
             script.write(bytes_for(writes, crew.n, crew.m))
 
     def role(wanted, standing=None):
@@ -365,8 +365,8 @@ def replay(rng):
                 script.mine(n2, m2, words)
     guard_lists(script)
     refused_weights(script)
-    worst_lists(script, rng)
-    other_lengths(script)
+    worst_lists(script, rng, bool(writes))
+    other_lengths(script, bool(writes))
     served_lists(script, rng)
     script.stdin += ["s 000000000000000g\n", "s %016x\n" % 0]
     script.lines.append("unreadable\n")
@@ -374,9 +374,23 @@ def replay(rng):
     return script.files()
 
 
-@target("test_listing")
-def listing_cases(rng):
-    """What the lister prints for crew texts of every kind and at the limits of 01, and for damaged ones; and after each what `handback` prints."""
+@target("test_replay")
+def replay(rng):
+    """Lists of strikes, restorations, eliminations and reviews, good and refused, with the two calls that read and damaged records in between; then
+    the lists of guards.py, the worst ones, records of other lengths, and lists served in one go. The last line but one can't be read, so the strike after it is not made."""
+    return replayed(rng)
+
+
+@target("test_written")
+def written(rng):
+    """The cases of request 1, and then the script of `test_replay` once more, with lists written back in between."""
+    cases = worked.written()
+    again = replayed(random.Random("vectors of replay"), random.Random("lists written back"))
+    return {name: cases[name] + again[name] for name in cases}
+
+
+def crew_texts(rng):
+    """Crew texts of every kind and at the limits of 01, and damaged ones."""
     lists = [(3, 3, [3, 6, 7]), (1, 1, [0]), (1, 1, [1]), (2, 3, [5, 5]), (3, 4, [0, 0, 0]), (1, 256, [2 ** 256 - 1]), (2, 255, [2 ** 254, 1]),
              (2, 3, [3, 5]), (2, 5, [15, 23]), (4, 7, [55, 124, 78, 103]), crews.lacking_one(7), crews.lacking_one(8), crews.lacking_one(6, 70), crews.nested_chain(128, 256), crews.full_table(),
              crews.antichain(30, 130), crews.random_rows(rng, 129, 3, 0.5)]
@@ -397,14 +411,35 @@ def listing_cases(rng):
         else:
             del text[at:]
         texts.append(bytes(text))
+    assert len(texts) >= 100
+    return texts
+
+
+def by_number(texts, answers):
+    """The texts as files, and the line of each file's name before what is answered to it."""
+    files = {"data/%03d" % number: text for number, text in enumerate(texts)}
+    files["stdout"] = b"".join(b"%03d\n%s" % (number, answer) for number, answer in enumerate(answers))
+    return files
+
+
+@target("test_listing")
+def listing_cases(rng):
+    """What the lister prints for crew texts of every kind and at the limits of 01, and for damaged ones."""
+    texts = crew_texts(rng)
     lines = [model.lister(text) for text in texts]
-    assert len(texts) >= 100 and {b"refused,%d\n" % code for code in (2, 3, 4, 10)} == {line for line in lines if line.startswith(b"refused")}
+    assert {b"refused,%d\n" % code for code in (2, 3, 4, 10)} == {line for line in lines if line.startswith(b"refused")}
+    return by_number(texts, lines)
+
+
+@target("test_handback")
+def handback_cases(rng):
+    """What `handback` prints for the texts of `test_listing`."""
+    texts = crew_texts(random.Random("vectors of listing_cases"))
     backs = [model.handback(text) for text in texts]
     # 02, job 1: 'every text that the reader accepts and whose list has at most 128 candidates comes back byte for byte'
+    lines = [model.lister(text) for text in texts]
     assert all(back == (line if line.startswith(b"refused") else text) for text, line, back in zip(texts, lines, backs))
-    files = {"data/%03d" % number: text for number, text in enumerate(texts)}
-    files["stdout"] = b"".join(b"%03d\n%s%s" % (number, line, back) for number, (line, back) in enumerate(zip(lines, backs)))
-    return files
+    return by_number(texts, backs)
 
 
 @target("lister")

@@ -1,4 +1,5 @@
-"""The script of the program `test_worked`: the cases of document 01, run in their order, and those of the requests of 02, with a title before each."""
+"""The scripts of the programs `test_worked` and `test_written`: the cases of document 01, run in their order, and those of request 1 of 02, with a
+title before each."""
 import random
 
 import model
@@ -316,8 +317,18 @@ def writing(cases):
         cases.written(300)
 
 
-def files():
+def run(*parts):
     cases = Cases()
-    for part in (mining, asking, damaging, lengths, standing_sets, editing, reading, writing):
+    for part in parts:
         part(cases)
     return cases.files()
+
+
+def files():
+    """Of `test_worked`."""
+    return run(mining, asking, damaging, lengths, standing_sets, editing, reading)
+
+
+def written():
+    """Of `test_written`: its first part."""
+    return run(writing)
