@@ -8,7 +8,7 @@ use native.Mathlib.Nat.{pow-suc, div-one, mod-lt, zero-div, div-eq_of_lt, lt_of_
 use native.Mathlib.Numerals.{add-one}
 use native.Mathlib.Omega.{arith}
 use lib.Dec.{eqb}
-use lib.Pow.{pow_pos, pow_mono, shr-shr, low, shr_lt, mod-mod-pow, field}
+use lib.Pow.{pow_pos, pow_mono, shr-shr, shr_lt, mod-mod-pow, field}
 use lib.Bits.{bit_and, bit_or, bit_xor, differ, and_shr, or_shr, xor_shr, and_step, or_step, xor_step}
 use Rattle.sets.specs.Truth.{◌and◌, ◌or◌, isnt}
 use Rattle.sets.specs.Sets.{has, ◌∩◌, ◌∪◌, ◌∖◌}

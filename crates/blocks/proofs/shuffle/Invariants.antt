@@ -1,12 +1,9 @@
 -- The words below 2 i are shuffled.
 -- Assumes nothing.
-use borrow.Author.Rules.{rules}
 use mathlib.Core.Path.{◌≡◌}
-use native.Mathlib.Omega.{arith}
-use Prim.Native.Nat.{◌+◌, ◌-◌, ◌*◌, ◌≤◌}
-use lib.ListN.{length, length-set}
+use Prim.Native.Nat.{◌-◌, ◌*◌, ◌≤◌}
+use lib.ListN.{length}
 use Rattle.blocks.specs.Shuffles.{Shuffled}
-use Rattle.blocks.proofs.Shuffling.{shuffled_none, shuffled_more}
 use Rattle.blocks.proofs.shuffle.Given as goal
 
 abbrev pub invariant-loop-i : goal.invariant-loop-i

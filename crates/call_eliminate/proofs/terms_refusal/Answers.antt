@@ -1,6 +1,5 @@
 -- The first check that finds something.
 -- Assumes nothing.
-use borrow.Author.Rules.{rules}
 use mathlib.Core.Path.{sym, ◌∙◌}
 use Rattle.model.specs.Machine.{refusal}
 use Rattle.model.proofs.Refusals.{or_else_first, or_else_next}

@@ -1,6 +1,5 @@
 -- The first check that finds something.
 -- Assumes nothing.
-use borrow.Author.Rules.{rules}
 use mathlib.Core.Path.{sym, ◌∙◌}
 use Rattle.model.proofs.Record.{within_limits_iff}
 use Rattle.model.proofs.Refusals.{limits_check, or_else_first, or_else_next}

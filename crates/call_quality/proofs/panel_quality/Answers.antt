@@ -1,6 +1,5 @@
 -- The entrance, the weights, and then the quality of the record's rows.
 -- Assumes nothing.
-use borrow.Author.Rules.{rules}
 use mathlib.Core.Path.{◌≡◌, refl, sym, ◌∙◌}
 use Rattle.model.specs.Calls.{unfit}
 use Rattle.model.proofs.Record.{sound_iff}

@@ -1,6 +1,5 @@
 -- Each check by its own test.
 -- Assumes nothing.
-use borrow.Author.Rules.{rules}
 use Rattle.call_restore.proofs.Restoring.{restore_6, restore_7, restore_0}
 use Rattle.call_restore.proofs.restore_refusal.Goals as goal
 

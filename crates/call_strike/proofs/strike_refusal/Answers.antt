@@ -1,7 +1,6 @@
 -- Each check by its own test.
 -- Assumes nothing.
 use borrow.Author.Rules.{rules}
-use borrow.Author.Tests.{not-true, not-false}
 use native.Mathlib.Omega.{arith}
 use Rattle.call_strike.proofs.Striking.{strike_6, strike_7, strike_8, strike_0}
 use Rattle.call_strike.proofs.strike_refusal.Goals as goal

@@ -1,11 +1,7 @@
 -- The kinds before i are known.
 -- Assumes nothing.
-use mathlib.Core.Bool.{So}
-use Prim.Native.Nat.{◌-◌, ◌*◌, ◌≤◌}
+use Prim.Native.Nat.{◌-◌}
 use native.Mathlib.Omega.{arith}
-use lib.Dec.{ltb}
-use lib.ListN.{get_or}
-use Rattle.sets.specs.Truth.{all}
 use Rattle.calls_list.proofs.Reading.{readable_not, readable_all, kinds_none, kinds_more}
 use Rattle.calls_list.proofs.can_read.Goals as goal
 

@@ -2,11 +2,9 @@
 -- Assumes nothing.
 use mathlib.Core.Bool.{So}
 use Prim.Native.Nat.{◌-◌, ◌*◌, ◌≤◌}
-use native.Mathlib.Omega.{arith}
 use lib.Dec.{ltb}
 use lib.ListN.{get_or}
 use Rattle.sets.specs.Truth.{all}
-use Rattle.calls_list.proofs.Reading.{readable_not, readable_all, kinds_none, kinds_more}
 use Rattle.calls_list.proofs.can_read.Given as goal
 
 abbrev pub invariant-loop-i : goal.invariant-loop-i

@@ -1,14 +1,12 @@
 -- The roles that are not in `todo` are taken up.
 -- Assumes nothing.
 use borrow.Author.Rules.{rules}
-use mathlib.Core.Path.{◌≡◌, refl}
+use mathlib.Core.Path.{refl}
 use native.Mathlib.Omega.{arith}
-use lib.Count.{ones}
 use mathlib.Core.List.{◌++◌}
-use lib.ListN.{length, drop}
+use lib.ListN.{drop}
 use Rattle.sets_128.specs.Held.{set128}
 use Rattle.hierarchy.proofs.Sieving.{fewer, not_empty, is_empty_lem}
-use Rattle.model.specs.Record.{record_length}
 use Rattle.stores.proofs.Stores.{part_back}
 use Rattle.edit_work.specs.Work.{down_start}
 use Rattle.edit_pass.proofs.Taking.{Taking, taking_start, taking_bound, taking_more, taking_all}

@@ -1,6 +1,5 @@
 -- Both products can be formed.
 -- Assumes nothing.
-use borrow.Author.Rules.{rules}
 use native.Mathlib.Omega.{arith}
 use Rattle.edit_turn.proofs.Turns.{denominator_times, numerator_times}
 use Rattle.edit_turn.proofs.tolerated.Goals as goal

@@ -1,6 +1,5 @@
 -- A column for each, or all 256 of them.
 -- Assumes nothing.
-use borrow.Author.Rules.{rules}
 use Prim.Native.Nat.{◌^◌, ◌<◌}
 use Rattle.sets_256.specs.Held.{set256}
 use Rattle.sets.proofs.Items.{item_below}

@@ -1,19 +1,13 @@
 -- The permissions that are not in `rest` have their entries.
 -- Assumes nothing.
 use borrow.Author.Rules.{rules}
-use mathlib.Core.Path.{◌≡◌}
-use Prim.Native.Nat.{◌*◌, ◌^◌, ◌<◌}
+use Prim.Native.Nat.{◌^◌, ◌<◌}
 use native.Mathlib.Omega.{arith}
-use lib.Count.{ones}
-use lib.ListN.{length}
 use Rattle.sets_128.specs.Held.{set128}
-use Rattle.sets_256.specs.Held.{set256}
-use Rattle.sets.specs.Sets.{has, collect}
 use Rattle.sets.proofs.Written.{words}
 use Rattle.sets_128.proofs.Held.{held128}
-use Rattle.model.specs.Lists.{set_at}
 use Rattle.hierarchy.proofs.Sieving.{fewer, not_empty, is_empty_lem}
-use Rattle.tables.proofs.Tables.{HeldBut, held_start, held_more}
+use Rattle.tables.proofs.Tables.{held_start, held_more}
 use Rattle.holders.proofs.Holding.{held_all}
 use Rattle.std.proofs.Common.{ap}
 use mathlib.Core.Bool.{not}

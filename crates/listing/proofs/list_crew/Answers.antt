@@ -1,6 +1,5 @@
 -- Mining refuses with 4 alone; what it accepts is settled and listed.
 -- Assumes nothing.
-use borrow.Author.Rules.{rules}
 use Prim.Native.Nat.{ℕ}
 use native.Mathlib.Omega.{arith}
 use lib.ListN.{length, replicate, length-replicate}

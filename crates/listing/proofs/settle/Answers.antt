@@ -1,6 +1,5 @@
 -- A sound record goes through the two calls.
 -- Assumes nothing.
-use borrow.Author.Rules.{rules}
 use Rattle.listing.proofs.Rendered.{settle_is}
 use Rattle.listing.proofs.settle.Goals as goal
 

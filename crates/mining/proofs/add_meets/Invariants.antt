@@ -1,13 +1,10 @@
 -- The meets of r with the first i sets of the table are in it.
 -- Assumes nothing.
 use Prim.Native.Nat.{◌-◌}
-use borrow.Author.Rules.{rules}
-use mathlib.Core.Path.{subst}
 use Rattle.sets_256.specs.Held.{set256}
 use Rattle.model.specs.Lists.{rows_at}
-use Rattle.mining.specs.Mining.{Framed, Seen, Known, Adds}
-use Rattle.mining.proofs.Meeting.{Walked, walked_none}
-use Rattle.mining.proofs.Walking.{walking_known, walking_placed, walking_full, walking_all, seen_held}
+use Rattle.mining.specs.Mining.{Framed, Seen}
+use Rattle.mining.proofs.Meeting.{Walked}
 use Rattle.mining.proofs.add_meets.Given as goal
 
 abbrev pub invariant-loop-i : goal.invariant-loop-i

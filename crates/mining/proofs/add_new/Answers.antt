@@ -1,6 +1,5 @@
 -- The row is placed, and then what it meets.
 -- Assumes nothing.
-use borrow.Author.Rules.{rules}
 use mathlib.Core.Path.{subst}
 use Rattle.mining.specs.Mining.{Admits}
 use Rattle.model.proofs.Growing.{place_growing}

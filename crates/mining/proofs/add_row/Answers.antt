@@ -2,7 +2,6 @@
 -- Assumes nothing.
 use mathlib.Core.Path.{sym, ◌∙◌}
 use borrow.Author.Tests.{eqb-true, eqb-false}
-use borrow.Author.Rules.{rules}
 use Rattle.mining.proofs.Placing.{found_listed}
 use Rattle.mining.proofs.Meeting.{row_empty, row_listed}
 use Rattle.mining.proofs.Walking.{held_seen}

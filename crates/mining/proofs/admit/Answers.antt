@@ -3,7 +3,6 @@
 use native.Mathlib.Omega.{arith}
 use Rattle.mining.proofs.Placing.{holds-listed, found_listed}
 use Rattle.mining.proofs.Seeing.{seen_placed, admits_adds}
-use borrow.Author.Rules.{rules}
 use Rattle.mining.proofs.admit.Goals as goal
 
 pub returns-in_default : goal.returns-in_default

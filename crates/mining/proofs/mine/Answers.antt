@@ -2,11 +2,9 @@
 -- Assumes nothing.
 use Prim.Native.Nat.{ℕ, ◌-◌}
 use lib.ListN.{length-replicate}
-use borrow.Author.Rules.{rules}
 use mathlib.Core.Path.{subst}
-use Rattle.model.specs.Lists.{rows_at}
-use Rattle.mining.specs.Mining.{Seen, Adds}
-use Rattle.mining.proofs.Users.{Mining, mining_none, mining_table, mining_all, mining_more, mining_full}
+use Rattle.mining.specs.Mining.{Adds}
+use Rattle.mining.proofs.Users.{mining_none, mining_table, mining_all, mining_more, mining_full}
 use Rattle.stores.proofs.Stores.{blank}
 use Rattle.mining.proofs.Seeing.{seen_none}
 use Rattle.mining.proofs.Walking.{seen_held}

@@ -1,15 +1,9 @@
 -- The table has the candidates of the rows before place i.
 -- Assumes nothing.
-use Prim.Native.Nat.{ℕ, ◌-◌}
-use lib.ListN.{length-replicate}
-use borrow.Author.Rules.{rules}
-use mathlib.Core.Path.{subst}
+use Prim.Native.Nat.{◌-◌}
 use Rattle.model.specs.Lists.{rows_at}
-use Rattle.mining.specs.Mining.{Seen, Adds}
-use Rattle.mining.proofs.Users.{Mining, mining_none, mining_table, mining_all, mining_more, mining_full}
-use Rattle.stores.proofs.Stores.{blank}
-use Rattle.mining.proofs.Seeing.{seen_none}
-use Rattle.mining.proofs.Walking.{seen_held}
+use Rattle.mining.specs.Mining.{Seen}
+use Rattle.mining.proofs.Users.{Mining}
 use Rattle.mining.proofs.mine.Given as goal
 
 abbrev pub invariant-loop-i : goal.invariant-loop-i

@@ -1,7 +1,6 @@
 -- A table with 128 sets is full, and else has one set more.
 -- Assumes nothing.
 use native.Mathlib.Omega.{arith}
-use borrow.Author.Rules.{rules}
 use Rattle.mining.proofs.Placing.{new_full, holds_new}
 use Rattle.mining.proofs.put.Goals as goal
 

@@ -1,6 +1,5 @@
 -- Mining refuses with 4 alone; what it accepts is written, and there is room for it.
 -- Assumes nothing.
-use borrow.Author.Rules.{rules}
 use mathlib.Core.Path.{◌≡◌}
 use Prim.Native.Nat.{ℕ}
 use native.Mathlib.Omega.{arith}

@@ -1,11 +1,8 @@
 -- The words before place i are zero.
 -- Assumes nothing.
 use borrow.Author.Rules.{rules}
-use mathlib.Core.Path.{◌≡◌}
 use native.Mathlib.Omega.{arith}
-use Prim.Native.Nat.{◌-◌, ◌≤◌}
-use lib.ListN.{length, length-set}
-use Rattle.tables.specs.Tables.{ZeroFrom}
+use lib.ListN.{length-set}
 use Rattle.tables.proofs.Clearing.{zeros_none, cleared_more, cleared_all}
 use Rattle.tables.proofs.clear.Goals as goal
 

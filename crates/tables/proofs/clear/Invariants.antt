@@ -1,12 +1,9 @@
 -- The words before place i are zero.
 -- Assumes nothing.
-use borrow.Author.Rules.{rules}
 use mathlib.Core.Path.{◌≡◌}
-use native.Mathlib.Omega.{arith}
 use Prim.Native.Nat.{◌-◌, ◌≤◌}
-use lib.ListN.{length, length-set}
+use lib.ListN.{length}
 use Rattle.tables.specs.Tables.{ZeroFrom}
-use Rattle.tables.proofs.Clearing.{zeros_none, cleared_more, cleared_all}
 use Rattle.tables.proofs.clear.Given as goal
 
 abbrev pub invariant-loop-i : goal.invariant-loop-i

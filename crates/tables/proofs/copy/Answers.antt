@@ -1,10 +1,9 @@
 -- The list so far is the one lent with the first i words of src put in.
 -- Assumes nothing.
 use borrow.Author.Rules.{rules}
-use mathlib.Core.Path.{◌≡◌, refl}
+use mathlib.Core.Path.{refl}
 use native.Mathlib.Omega.{arith}
-use Prim.Native.Nat.{◌-◌, ◌≤◌}
-use lib.ListN.{length, take, length-set}
+use lib.ListN.{length-set}
 use Rattle.stores.specs.Stores.{put_at}
 use Rattle.stores.proofs.Stores.{put_at-take, put_at_taken}
 use Rattle.tables.proofs.copy.Goals as goal

@@ -1,12 +1,9 @@
 -- The list so far is the one lent with the first i words of src put in.
 -- Assumes nothing.
-use borrow.Author.Rules.{rules}
-use mathlib.Core.Path.{◌≡◌, refl}
-use native.Mathlib.Omega.{arith}
+use mathlib.Core.Path.{◌≡◌}
 use Prim.Native.Nat.{◌-◌, ◌≤◌}
-use lib.ListN.{length, take, length-set}
+use lib.ListN.{length, take}
 use Rattle.stores.specs.Stores.{put_at}
-use Rattle.stores.proofs.Stores.{put_at-take, put_at_taken}
 use Rattle.tables.proofs.copy.Given as goal
 
 abbrev pub invariant-loop-i : goal.invariant-loop-i

@@ -3,10 +3,8 @@
 use borrow.Author.Rules.{rules}
 use mathlib.Core.Path.{◌≡◌, refl, sym}
 use native.Mathlib.Omega.{arith}
-use Prim.Native.Nat.{◌+◌, ◌-◌, ◌≤◌}
-use lib.Dec.{eqb}
+use Prim.Native.Nat.{◌+◌}
 use lib.ListN.{length, get_or}
-use Rattle.sets.specs.Truth.{all}
 use Rattle.sets.proofs.Truth.{all_none}
 use Rattle.sets.proofs.Compare.{differ_more}
 use Rattle.tables.proofs.equal_at.Goals as goal

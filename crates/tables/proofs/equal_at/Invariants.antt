@@ -1,14 +1,10 @@
 -- The words before place i that differ have left a bit.
 -- Assumes nothing.
-use borrow.Author.Rules.{rules}
-use mathlib.Core.Path.{◌≡◌, refl, sym}
-use native.Mathlib.Omega.{arith}
+use mathlib.Core.Path.{◌≡◌}
 use Prim.Native.Nat.{◌+◌, ◌-◌, ◌≤◌}
 use lib.Dec.{eqb}
 use lib.ListN.{length, get_or}
 use Rattle.sets.specs.Truth.{all}
-use Rattle.sets.proofs.Truth.{all_none}
-use Rattle.sets.proofs.Compare.{differ_more}
 use Rattle.tables.proofs.equal_at.Given as goal
 
 abbrev pub invariant-loop-i : goal.invariant-loop-i

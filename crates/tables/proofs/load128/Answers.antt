@@ -1,7 +1,6 @@
 -- Assumes nothing.
 use mathlib.Core.Path.{◌∙◌}
 use Rattle.tables.proofs.Stores.{loaded2}
-use borrow.Author.Rules.{rules}
 use Rattle.tables.proofs.load128.Goals as goal
 
 pub returns : goal.returns

@@ -2,7 +2,6 @@
 use native.Mathlib.Omega.{arith}
 use lib.ListN.{length-set}
 use Rattle.tables.proofs.Stores.{stored4}
-use borrow.Author.Rules.{rules}
 use Rattle.tables.proofs.store256.Goals as goal
 
 pub bounds-ws-at-2 : goal.bounds-ws-at-2

@@ -2,11 +2,8 @@
 -- Assumes nothing.
 use borrow.Author.Rules.{rules}
 use mathlib.Core.Path.{◌≡◌, refl}
-use mathlib.Core.Logic.{◌↔◌}
 use native.Mathlib.Omega.{arith}
-use Prim.Native.Nat.{◌-◌, ◌≤◌}
 use Rattle.sets.proofs.Truth.{eqb_iff}
-use Rattle.tables.specs.Tables.{ZeroFrom}
 use Rattle.tables.proofs.Clearing.{zeros_none, zeros_more}
 use Rattle.tables.proofs.zeros.Goals as goal
 

@@ -1,13 +1,9 @@
 -- The words before place i have left a bit unless they are zero.
 -- Assumes nothing.
-use borrow.Author.Rules.{rules}
-use mathlib.Core.Path.{◌≡◌, refl}
+use mathlib.Core.Path.{◌≡◌}
 use mathlib.Core.Logic.{◌↔◌}
-use native.Mathlib.Omega.{arith}
 use Prim.Native.Nat.{◌-◌, ◌≤◌}
-use Rattle.sets.proofs.Truth.{eqb_iff}
 use Rattle.tables.specs.Tables.{ZeroFrom}
-use Rattle.tables.proofs.Clearing.{zeros_none, zeros_more}
 use Rattle.tables.proofs.zeros.Given as goal
 
 abbrev pub invariant-loop-i : goal.invariant-loop-i

@@ -1,6 +1,5 @@
 -- The digits are there.
 -- Assumes nothing.
-use borrow.Author.Rules.{rules}
 use native.Mathlib.Omega.{arith}
 use Rattle.text_sets.proofs.Hexadecimals.{hexadecimal_there}
 use Rattle.test_input.proofs.next_number.Goals as goal

@@ -1,10 +1,8 @@
 -- The place is within the words, and there are as many of them.
 -- Assumes nothing.
-use borrow.Author.Rules.{rules}
 use mathlib.Core.Path.{◌≡◌}
 use Prim.Native.Nat.{◌-◌, ◌≤◌}
-use native.Mathlib.Omega.{arith}
-use lib.ListN.{length, length-set}
+use lib.ListN.{length}
 use Rattle.test_input.proofs.numbers.Given as goal
 
 abbrev pub invariant-loop-i : goal.invariant-loop-i

@@ -1,6 +1,5 @@
 -- The four digits are there.
 -- Assumes nothing.
-use borrow.Author.Rules.{rules}
 use native.Mathlib.Omega.{arith}
 use Rattle.text_sets.proofs.Hexadecimals.{hexadecimal_there}
 use Rattle.test_text.proofs.number_at.Goals as goal

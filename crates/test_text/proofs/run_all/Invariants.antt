@@ -1,6 +1,5 @@
 -- The measure is the number of turns that are left.
 -- Assumes nothing.
-use native.Mathlib.Omega.{arith}
 use Rattle.test_text.proofs.run_all.Given as goal
 
 abbrev pub invariant-loop-left : goal.invariant-loop-left

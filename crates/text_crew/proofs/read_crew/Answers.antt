@@ -6,7 +6,6 @@ use Rattle.text_lines.proofs.Forms.{header_form}
 use mathlib.Core.Path.{◌≡◌, sym, ◌∙◌}
 use Rattle.text_lines.specs.declared.header.Header.TheVariants.{Crew}
 use Rattle.text_lines.specs.Lines.{header_at}
-use borrow.Author.Rules.{rules}
 use native.Mathlib.Omega.{arith}
 use Rattle.text_crew.proofs.read_crew.Goals as goal
 use Rattle.text_crew.proofs.read_crew.Goals.{In-Crew}

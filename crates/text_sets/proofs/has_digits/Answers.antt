@@ -1,14 +1,9 @@
 -- All places before place i have a digit.
 -- Assumes nothing.
-use Prim.Native.Nat.{◌+◌, ◌-◌, ◌≤◌}
+use Prim.Native.Nat.{◌-◌}
 use Rattle.sets.proofs.Truth.{all_none, all_more, ltb_iff}
-use Rattle.sets.specs.Truth.{all}
 use Rattle.text_sets.proofs.Hexadecimals.{hex_short, hex_fails, hex_through}
 use Rattle.text.specs.Digits.{digit_at}
-use borrow.Author.Rules.{rules}
-use lib.Dec.{ltb}
-use lib.ListN.{length}
-use mathlib.Core.Bool.{So}
 use mathlib.Core.Path.{sym}
 use native.Mathlib.Omega.{arith}
 use Rattle.text_sets.proofs.has_digits.Goals as goal

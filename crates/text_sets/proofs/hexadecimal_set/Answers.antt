@@ -4,7 +4,6 @@ use Rattle.text_sets.proofs.Hexadecimals.{hex_end, hex_part, hex_first, hex_word
 use mathlib.Core.Path.{◌∙◌}
 use mathlib.Core.Bool.{So}
 use Rattle.text_sets.specs.Hexadecimal.{hexadecimal_at}
-use borrow.Author.Rules.{rules}
 use native.Mathlib.Omega.{arith}
 use Rattle.text_sets.proofs.hexadecimal_set.Goals as goal
 use Rattle.text_sets.proofs.hexadecimal_set.Goals.{After-above-c}

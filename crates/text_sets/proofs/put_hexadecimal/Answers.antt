@@ -1,13 +1,8 @@
 -- The digits of whole words that are left to write, put into the list so far, are what was to be written.
 -- Assumes nothing.
-use borrow.Author.Rules.{rules}
 use mathlib.Core.Path.{◌≡◌, refl, ◌∙◌}
 use Prim.Native.Nat.{◌+◌, ◌-◌, ◌*◌, ◌/◌, ◌%◌}
 use native.Mathlib.Omega.{arith}
-use lib.ListN.{length}
-use Rattle.sets_256.specs.Held.{set256}
-use Rattle.stores.specs.Stores.{put_at}
-use Rattle.text_sets.specs.Hexadecimal.{hexadecimal}
 use Rattle.text_sets.proofs.Hexadecimals.{hex_front, hex_none}
 use Rattle.text_sets.proofs.put_hexadecimal.Goals as goal
 

@@ -1,6 +1,5 @@
 -- The field ends after its digits where they are there.
 -- Assumes nothing.
-use borrow.Author.Rules.{rules}
 use mathlib.Core.Path.{sym, ◌∙◌}
 use native.Mathlib.Omega.{arith}
 use Rattle.text_sets.specs.Hexadecimal.{hexadecimal_field}

@@ -1,10 +1,8 @@
 -- The word so far is what the first i digits make.
 -- Assumes nothing.
-use Prim.Native.Nat.{◌+◌, ◌-◌, ◌≤◌}
+use Prim.Native.Nat.{◌-◌}
 use Rattle.text_sets.proofs.Hexadecimals.{hex_end, hex_digit, hex_more, hex_room}
 use Rattle.text_sets.specs.Hexadecimal.{hexadecimal_value}
-use borrow.Author.Rules.{rules}
-use lib.ListN.{length}
 use mathlib.Core.Path.{◌≡◌, refl}
 use native.Mathlib.Omega.{arith}
 use Rattle.text_sets.proofs.word_of.Goals as goal

@@ -1,6 +1,5 @@
 -- The header and the rows, one after another.
 -- Assumes nothing.
-use borrow.Author.Rules.{rules}
 use native.Mathlib.Omega.{arith}
 use Rattle.text_write.proofs.Puts.{record_put, record_room}
 use Rattle.text_write.proofs.put_crew.Goals as goal

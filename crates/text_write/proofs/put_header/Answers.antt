@@ -1,6 +1,5 @@
 -- The header is a first line.
 -- Assumes nothing.
-use borrow.Author.Rules.{rules}
 use native.Mathlib.Omega.{arith}
 use Rattle.text_lines.specs.Format.{header_line}
 use Rattle.text_write.proofs.put_header.Goals as goal

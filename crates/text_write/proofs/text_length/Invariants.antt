@@ -1,14 +1,10 @@
 -- The header and the lines of the users below u are counted.
 -- Assumes nothing.
-use borrow.Author.Rules.{rules}
-use mathlib.Core.Path.{◌≡◌, sym, ◌∙◌}
+use mathlib.Core.Path.{◌≡◌}
 use mathlib.Core.List.{List}
 use Prim.Native.Nat.{ℕ, ◌+◌, ◌-◌, ◌*◌, ◌≤◌}
-use native.Mathlib.Omega.{arith}
 use lib.ListN.{length}
 use Rattle.text_lines.specs.Format.{header_line, row_lines}
-use Rattle.text_lines.proofs.Lengths.{length_text}
-use Rattle.text_write.proofs.Puts.{sized_none, sized_more}
 use Rattle.text_write.proofs.text_length.Given as goal
 
 abbrev pub invariant-loop-u : goal.invariant-loop-u

@@ -1,10 +1,9 @@
 -- The links of the roles from k up are followed.
 -- Assumes nothing.
 use mathlib.Core.Path.{◌≡◌}
-use Prim.Native.Nat.{suc, ◌-◌, ◌≤◌}
+use Prim.Native.Nat.{suc, ◌-◌}
 use native.Mathlib.Omega.{arith}
-use Rattle.sets_128.specs.Held.{set128}
-use Rattle.access.proofs.Following.{Following, following_none, following_more, following_all}
+use Rattle.access.proofs.Following.{following_none, following_more, following_all}
 use borrow.Author.Rules.{rules}
 use Rattle.access.proofs.reach.reached_from.Goals as goal
 

@@ -1,7 +1,6 @@
 -- Assumes nothing.
 use mathlib.Core.Path.{sym, ◌∙◌}
 use Rattle.sets.proofs.Truth.{if-true, if-false}
-use borrow.Author.Rules.{rules}
 use Rattle.access.proofs.reach.with_juniors.Goals as goal
 
 pub returns-then-contains : goal.returns-then-contains

@@ -1,6 +1,5 @@
 -- Assumes nothing.
 use Rattle.access.proofs.Asking.{may_found}
-use borrow.Author.Rules.{rules}
 use Rattle.access.proofs.rights.may.Goals as goal
 
 pub returns : goal.returns

@@ -3,13 +3,10 @@
 use mathlib.Core.Path.{◌≡◌}
 use mathlib.Core.Bool.{false}
 use Prim.Native.Nat.{◌-◌, ◌*◌, ◌≤◌}
-use native.Mathlib.Omega.{arith}
 use Rattle.sets_128.specs.Held.{set128}
 use Rattle.sets.specs.Sets.{has}
 use Rattle.sets.specs.Truth.{◌and◌, any}
 use Rattle.model.specs.Lists.{set_at}
-use Rattle.access.proofs.Search.{both_tests, any_none, any_more, any_found, any_missed}
-use borrow.Author.Rules.{rules}
 use Rattle.access.proofs.rights.some_has.Given as goal
 
 abbrev pub invariant-loop-j : goal.invariant-loop-j

@@ -1,7 +1,5 @@
 -- The check by its two sides; a record that passes has its index.
 -- Assumes nothing.
-use borrow.Author.Rules.{rules}
-use borrow.Author.Tests.{not-true, not-false}
 use mathlib.Core.Path.{sym, ◌∙◌}
 use native.Mathlib.Omega.{arith}
 use Rattle.sets.proofs.Truth.{So-not}

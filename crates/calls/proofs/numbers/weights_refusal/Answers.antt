@@ -1,7 +1,5 @@
 -- The check by its two sides.
 -- Assumes nothing.
-use borrow.Author.Rules.{rules}
-use borrow.Author.Tests.{not-true, not-false}
 use mathlib.Core.Path.{sym, ◌∙◌}
 use Rattle.sets.proofs.Truth.{So-not}
 use Rattle.model.proofs.Refusals.{weights_check}

@@ -1,14 +1,11 @@
 -- The entries of the words before j are filled.
 -- Assumes nothing.
-use borrow.Author.Rules.{rules}
 use mathlib.Core.Path.{◌≡◌}
-use native.Mathlib.Omega.{arith}
 use Prim.Native.Nat.{◌+◌, ◌-◌, ◌*◌, ◌≤◌, min}
 use lib.ListN.{length}
 use Rattle.sets.specs.Sets.{has, collect}
 use Rattle.model.specs.Lists.{set_at}
 use Rattle.tables.specs.Tables.{Filled}
-use Rattle.tables.proofs.Tables.{filled_none}
 use Rattle.columns.proofs.all.fill_columns_of.Given as goal
 
 abbrev pub invariant-loop-j : goal.invariant-loop-j

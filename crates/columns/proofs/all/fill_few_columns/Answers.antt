@@ -3,14 +3,10 @@
 use borrow.Author.Rules.{rules}
 use mathlib.Core.Path.{◌≡◌}
 use native.Mathlib.Omega.{arith}
-use Prim.Native.Nat.{◌-◌, ◌*◌, ◌^◌, ◌≤◌, ◌<◌}
-use lib.ListN.{length}
+use Prim.Native.Nat.{◌-◌, ◌^◌, ◌<◌}
 use Rattle.sets_128.specs.Held.{set128}
-use Rattle.sets.specs.Sets.{has, collect}
 use Rattle.sets.proofs.Written.{words}
 use Rattle.sets_128.proofs.Held.{held128}
-use Rattle.model.specs.Lists.{set_at}
-use Rattle.tables.specs.Tables.{Filled}
 use Rattle.tables.proofs.Tables.{filled_none, filled_more}
 use Rattle.columns.proofs.all.fill_few_columns.Goals as goal
 

@@ -1,6 +1,5 @@
 -- A word of the transposed block is what its bits gather, by `block_column`.
 -- Assumes nothing.
-use borrow.Author.Rules.{rules}
 use Rattle.columns.proofs.Gathering.{gathered_none, block_column}
 use Rattle.columns.proofs.all.gather_all.Goals as goal
 

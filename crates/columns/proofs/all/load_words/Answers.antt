@@ -3,9 +3,8 @@
 use borrow.Author.Rules.{rules}
 use mathlib.Core.Path.{◌≡◌}
 use native.Mathlib.Omega.{arith}
-use Prim.Native.Nat.{◌+◌, ◌-◌, ◌*◌, ◌≤◌, ◌<◌}
-use lib.ListN.{length, get_or, length-set}
-use Rattle.columns.specs.Loading.{Loaded}
+use Prim.Native.Nat.{◌+◌, ◌-◌, ◌*◌, ◌<◌}
+use lib.ListN.{length, length-set}
 use Rattle.columns.proofs.Gathering.{loaded_none, loaded_more}
 use Rattle.columns.proofs.all.load_words.Goals as goal
 use Rattle.columns.proofs.all.load_words.Goals.{In-loop-q}

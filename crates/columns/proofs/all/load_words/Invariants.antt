@@ -1,12 +1,9 @@
 -- The words before q are loaded.
 -- Assumes nothing.
-use borrow.Author.Rules.{rules}
 use mathlib.Core.Path.{◌≡◌}
-use native.Mathlib.Omega.{arith}
-use Prim.Native.Nat.{◌+◌, ◌-◌, ◌*◌, ◌≤◌, ◌<◌}
-use lib.ListN.{length, get_or, length-set}
+use Prim.Native.Nat.{◌+◌, ◌-◌, ◌*◌, ◌≤◌}
+use lib.ListN.{length, get_or}
 use Rattle.columns.specs.Loading.{Loaded}
-use Rattle.columns.proofs.Gathering.{loaded_none, loaded_more}
 use Rattle.columns.proofs.all.load_words.Given as goal
 
 abbrev pub invariant-loop-q : goal.invariant-loop-q

@@ -3,9 +3,8 @@
 use borrow.Author.Rules.{rules}
 use mathlib.Core.Path.{◌≡◌, sym, ◌∙◌}
 use native.Mathlib.Omega.{arith}
-use Prim.Native.Nat.{◌+◌, ◌-◌, ◌*◌, ◌≤◌, ◌<◌}
-use lib.ListN.{length, get_or}
-use Rattle.sets.specs.Sets.{has, collect}
+use Prim.Native.Nat.{◌+◌, ◌-◌, ◌*◌, ◌<◌}
+use lib.ListN.{length}
 use Rattle.sets.proofs.Order.{collect-zero, collect-bit}
 use Rattle.sets.proofs.Written.{test_item}
 use Rattle.columns.proofs.one.gather.Goals as goal

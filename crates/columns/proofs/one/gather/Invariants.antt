@@ -1,13 +1,9 @@
 -- The bits of the sets before q are gathered.
 -- Assumes nothing.
-use borrow.Author.Rules.{rules}
-use mathlib.Core.Path.{◌≡◌, sym, ◌∙◌}
-use native.Mathlib.Omega.{arith}
-use Prim.Native.Nat.{◌+◌, ◌-◌, ◌*◌, ◌≤◌, ◌<◌}
-use lib.ListN.{length, get_or}
+use mathlib.Core.Path.{◌≡◌}
+use Prim.Native.Nat.{◌+◌, ◌-◌, ◌*◌, ◌≤◌}
+use lib.ListN.{get_or}
 use Rattle.sets.specs.Sets.{has, collect}
-use Rattle.sets.proofs.Order.{collect-zero, collect-bit}
-use Rattle.sets.proofs.Written.{test_item}
 use Rattle.columns.proofs.one.gather.Given as goal
 
 abbrev pub invariant-loop-q : goal.invariant-loop-q

@@ -1,16 +1,13 @@
 -- `left` more passes may follow.
 -- Assumes nothing.
 use borrow.Author.Rules.{rules}
-use mathlib.Core.Path.{◌≡◌, refl, sym, ◌∙◌}
+use mathlib.Core.Path.{refl, sym, ◌∙◌}
 use mathlib.Core.Logic.{◌≢◌}
 use native.Mathlib.Omega.{arith}
-use lib.ListN.{length}
 use Rattle.sets_128.specs.Held.{set128}
 use Rattle.sets.proofs.Truth.{So-not, eqb_iff}
-use Rattle.model.specs.Record.{record_length}
-use Rattle.edit_work.specs.Work.{work_length}
 use Rattle.edit_trials.proofs.Runs.{ready_few}
-use Rattle.edit_eliminate.proofs.Running.{Running, running_start, running_empty, running_last, running_more, running_out}
+use Rattle.edit_eliminate.proofs.Running.{running_start, running_empty, running_last, running_more, running_out}
 use Rattle.edit_eliminate.proofs.all.run_passes.Goals as goal
 use Rattle.edit_eliminate.proofs.all.run_passes.Goals.{Else-is_empty}
 

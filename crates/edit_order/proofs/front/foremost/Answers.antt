@@ -1,11 +1,10 @@
 -- No role to do has a key above `rank`.
 -- Assumes nothing.
-use borrow.Author.Rules.{rules}
 use mathlib.Core.Path.{◌≡◌, sym, ◌∙◌}
 use native.Mathlib.Omega.{arith}
 use Rattle.sets_128.specs.Held.{set128}
 use Rattle.sets.proofs.Truth.{So-not, eqb_iff}
-use Rattle.edit_order.proofs.Leading.{Sinking, sinking_start, sinking_more, sinking_out, sinking_found}
+use Rattle.edit_order.proofs.Leading.{sinking_start, sinking_more, sinking_out, sinking_found}
 use Rattle.edit_order.proofs.front.foremost.Goals as goal
 use Rattle.edit_order.proofs.front.foremost.Goals.{In-loop-front}
 

@@ -1,11 +1,7 @@
 -- No role to do has a key above `rank`.
 -- Assumes nothing.
-use borrow.Author.Rules.{rules}
-use mathlib.Core.Path.{◌≡◌, sym, ◌∙◌}
-use native.Mathlib.Omega.{arith}
 use Rattle.sets_128.specs.Held.{set128}
-use Rattle.sets.proofs.Truth.{So-not, eqb_iff}
-use Rattle.edit_order.proofs.Leading.{Sinking, sinking_start, sinking_more, sinking_out, sinking_found}
+use Rattle.edit_order.proofs.Leading.{Sinking}
 use Rattle.edit_order.proofs.front.foremost.Given as goal
 
 abbrev pub invariant-loop-front : goal.invariant-loop-front

@@ -1,9 +1,8 @@
 -- The words before i are zero.
 -- Assumes nothing.
-use mathlib.Core.Path.{◌≡◌}
-use Prim.Native.Nat.{ℕ, ◌-◌, ◌≤◌, ◌<◌}
+use Prim.Native.Nat.{◌-◌}
 use native.Mathlib.Omega.{arith}
-use lib.ListN.{length, get_or, length-set}
+use lib.ListN.{length-set}
 use Rattle.edit_order.proofs.Sorting.{zero_more}
 use Rattle.edit_order.proofs.ranks.clear.Goals as goal
 

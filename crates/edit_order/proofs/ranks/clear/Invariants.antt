@@ -2,9 +2,7 @@
 -- Assumes nothing.
 use mathlib.Core.Path.{◌≡◌}
 use Prim.Native.Nat.{ℕ, ◌-◌, ◌≤◌, ◌<◌}
-use native.Mathlib.Omega.{arith}
-use lib.ListN.{length, get_or, length-set}
-use Rattle.edit_order.proofs.Sorting.{zero_more}
+use lib.ListN.{length, get_or}
 use Rattle.edit_order.proofs.ranks.clear.Given as goal
 
 abbrev pub invariant-loop-i : goal.invariant-loop-i

@@ -1,6 +1,5 @@
 -- 1 exactly where k is counted.
 -- Assumes nothing.
-use borrow.Author.Rules.{rules}
 use mathlib.Core.Path.{sym, ◌∙◌}
 use Rattle.sets.proofs.Truth.{if-true, if-false}
 use Rattle.edit_order.proofs.redundancy.floor_of.Goals as goal

@@ -1,15 +1,13 @@
 -- The first holders that are not in `rest` are taken into account.
 -- Assumes nothing.
-use borrow.Author.Rules.{rules}
 use mathlib.Core.Path.{◌≡◌, ◌∙◌, ap}
 use Prim.Native.Nat.{ℕ}
 use native.Mathlib.Omega.{arith}
-use lib.Count.{ones}
 use Rattle.sets_128.specs.Held.{set128}
 use Rattle.sets.specs.Sets.{◌∩◌}
 use Rattle.hierarchy.proofs.Sieving.{not_empty, is_empty_lem}
 use Rattle.edit_work.specs.Work.{samples_start, entry}
-use Rattle.edit_order.proofs.Walking.{Asking, HolderAsked, asked, asking_start, asking_more, asking_fewer, asking_stop, asking_all}
+use Rattle.edit_order.proofs.Walking.{HolderAsked, asked, asking_start, asking_more, asking_fewer, asking_stop, asking_all}
 use mathlib.Core.Bool.{not}
 use Rattle.edit_order.proofs.redundancy.least_of.Goals as goal
 use Rattle.edit_order.proofs.redundancy.least_of.Goals.{After-intersection-own, After-smaller-least}

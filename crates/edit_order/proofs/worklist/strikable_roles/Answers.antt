@@ -1,10 +1,8 @@
 -- The strikable ones of the standing roles that are not in `rest` are found.
 -- Assumes nothing.
 use borrow.Author.Rules.{rules}
-use lib.Count.{ones}
-use Rattle.sets_128.specs.Held.{set128}
 use Rattle.hierarchy.proofs.Sieving.{fewer, not_empty, is_empty_lem}
-use Rattle.edit_order.proofs.Gathering.{Gathering, gathering_start, gathering_more, gathering_all}
+use Rattle.edit_order.proofs.Gathering.{gathering_start, gathering_more, gathering_all}
 use Rattle.std.proofs.Common.{ap}
 use mathlib.Core.Bool.{not}
 use Rattle.edit_order.proofs.worklist.strikable_roles.Goals as goal

@@ -1,6 +1,5 @@
 -- Put in exactly where the test holds.
 -- Assumes nothing.
-use borrow.Author.Rules.{rules}
 use Rattle.sets.proofs.Order.{put_in, left_out}
 use Rattle.edit_order.proofs.worklist.with_strikable.Goals as goal
 

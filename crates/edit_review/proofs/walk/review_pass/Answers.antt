@@ -2,13 +2,11 @@
 -- Assumes nothing.
 use borrow.Author.Rules.{rules}
 use mathlib.Core.Path.{◌≡◌}
-use Prim.Native.Nat.{◌-◌, ◌≤◌}
+use Prim.Native.Nat.{◌-◌}
 use native.Mathlib.Omega.{arith}
-use lib.ListN.{length, get_or}
-use Rattle.model.specs.Record.{record_length}
-use Rattle.quality.specs.Numbers.{weights_in}
+use lib.ListN.{get_or}
 use Rattle.edit_trials.proofs.Runs.{ready_few}
-use Rattle.edit_review.proofs.Turns.{Passing, passing_start, passing_more, passing_bound, passing_count}
+use Rattle.edit_review.proofs.Turns.{passing_start, passing_more, passing_bound, passing_count}
 use Rattle.edit_review.proofs.walk.review_pass.Goals as goal
 
 pub loop-k-init : goal.loop-k-init

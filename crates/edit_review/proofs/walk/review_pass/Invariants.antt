@@ -1,14 +1,11 @@
 -- The candidates below k have been taken up.
 -- Assumes nothing.
-use borrow.Author.Rules.{rules}
 use mathlib.Core.Path.{◌≡◌}
 use Prim.Native.Nat.{◌-◌, ◌≤◌}
-use native.Mathlib.Omega.{arith}
-use lib.ListN.{length, get_or}
+use lib.ListN.{length}
 use Rattle.model.specs.Record.{record_length}
 use Rattle.quality.specs.Numbers.{weights_in}
-use Rattle.edit_trials.proofs.Runs.{ready_few}
-use Rattle.edit_review.proofs.Turns.{Passing, passing_start, passing_more, passing_bound, passing_count}
+use Rattle.edit_review.proofs.Turns.{Passing}
 use Rattle.edit_review.proofs.walk.review_pass.Given as goal
 
 abbrev pub invariant-loop-k : goal.invariant-loop-k

@@ -1,6 +1,5 @@
 -- The standing mark, the upper rows and the lower rows, one after the other.
 -- Assumes nothing.
-use borrow.Author.Rules.{rules}
 use Rattle.edit_rows.proofs.Changing.{changed}
 use Rattle.edit_rows.proofs.change.change_standing.Goals as goal
 

@@ -1,6 +1,5 @@
 -- The role has direct members of its own, or none.
 -- Assumes nothing.
-use borrow.Author.Rules.{rules}
 use mathlib.Core.Path.{sym, ◌∙◌, ap}
 use Prim.Native.Nat.{ℕ}
 use lib.Dec.{eqb}

@@ -1,6 +1,5 @@
 -- The neighbours of k are those of the building in which it stands again.
 -- Assumes nothing.
-use borrow.Author.Rules.{rules}
 use Rattle.model.specs.Hierarchy.{immediate_juniors}
 use Rattle.hierarchy.specs.Tables.{immediate_seniors}
 use Rattle.edit_rows.proofs.Changing.{put_found}

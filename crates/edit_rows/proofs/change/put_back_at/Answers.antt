@@ -1,6 +1,5 @@
 -- The rows of k and of its neighbours are written anew.
 -- Assumes nothing.
-use borrow.Author.Rules.{rules}
 use Rattle.edit_rows.proofs.Changing.{put_at_lem}
 use Rattle.edit_rows.proofs.change.put_back_at.Goals as goal
 

@@ -1,6 +1,5 @@
 -- The neighbours of k are those read from the table and from the record.
 -- Assumes nothing.
-use borrow.Author.Rules.{rules}
 use mathlib.Core.Path.{◌∙◌}
 use Prim.Native.Nat.{◌^◌, ◌<◌}
 use Rattle.sets_128.specs.Held.{set128}

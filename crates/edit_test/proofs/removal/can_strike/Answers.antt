@@ -1,6 +1,5 @@
 -- The holders that were looked for are those of the direct permissions.
 -- Assumes nothing.
-use borrow.Author.Rules.{rules}
 use Rattle.model.specs.State.{roles_of}
 use Rattle.edit_test.proofs.Removing.{permissions_told}
 use Rattle.edit_test.proofs.removal.can_strike.Goals as goal

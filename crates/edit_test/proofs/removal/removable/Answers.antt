@@ -1,5 +1,4 @@
 -- Assumes nothing.
-use borrow.Author.Rules.{rules}
 use Rattle.edit_test.proofs.Removing.{told_strikable}
 use Rattle.edit_test.proofs.removal.removable.Goals as goal
 

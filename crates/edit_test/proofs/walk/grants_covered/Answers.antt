@@ -1,14 +1,10 @@
 -- The users not in `rest`, and the permissions of u not in `asked`, have no bare grant.
 -- Assumes nothing.
-use borrow.Author.Rules.{rules}
-use mathlib.Core.Path.{◌≡◌, refl, ◌∙◌}
+use mathlib.Core.Path.{refl, ◌∙◌}
 use mathlib.Core.Bool.{false}
 use native.Mathlib.Omega.{arith}
-use lib.Count.{ones}
-use Rattle.sets_128.specs.Held.{set128}
-use Rattle.sets_256.specs.Held.{set256}
 use Rattle.hierarchy.proofs.Sieving.{fewer, not_empty, is_empty_lem}
-use Rattle.edit_test.proofs.Covering.{Walked, Asking, walk_start, walk_more, asking_start, asking_more, walk_bare, walk_through, went_through, was_left}
+use Rattle.edit_test.proofs.Covering.{walk_start, walk_more, asking_start, asking_more, walk_bare, walk_through, went_through, was_left}
 use Rattle.std.proofs.Common.{ap}
 use mathlib.Core.Bool.{not}
 use Rattle.edit_test.proofs.walk.grants_covered.Goals as goal

@@ -1,21 +1,17 @@
 -- The users not in `rest`, and the permissions of u not in `asked`, have no bare grant.
 -- Assumes nothing.
-use borrow.Author.Rules.{rules}
 use Rattle.sets_128.proofs.Set128.intersection.Reads as set128-Set128-intersection-reads
 use Rattle.sets_128.proofs.Set128.is_empty.Reads as set128-Set128-is-empty-reads
 use Rattle.sets_128.proofs.Set128.remove.Reads as set128-Set128-remove-reads
 use Rattle.sets_256.proofs.Set256.intersection.Reads as set256-Set256-intersection-reads
 use Rattle.sets_256.proofs.Set256.is_empty.Reads as set256-Set256-is-empty-reads
 use Rattle.sets_256.proofs.Set256.remove.Reads as set256-Set256-remove-reads
-use mathlib.Core.Path.{◌≡◌, refl, ◌∙◌}
+use mathlib.Core.Path.{◌≡◌}
 use mathlib.Core.Bool.{false}
-use mathlib.Core.Logic.{⊎_elim}
-use native.Mathlib.Omega.{arith}
 use lib.Count.{ones}
 use Rattle.sets_128.specs.Held.{set128}
 use Rattle.sets_256.specs.Held.{set256}
-use Rattle.hierarchy.proofs.Sieving.{fewer, not_empty, is_empty_lem}
-use Rattle.edit_test.proofs.Covering.{Walked, Asking, walk_start, walk_more, asking_start, asking_more, walk_bare, walk_through, went_through, was_left}
+use Rattle.edit_test.proofs.Covering.{Walked, Asking}
 use Rattle.edit_test.proofs.walk.grants_covered.Given as goal
 
 abbrev pub invariant-loop-own : goal.invariant-loop-own

@@ -1,6 +1,5 @@
 -- The three sums together.
 -- Assumes nothing.
-use borrow.Author.Rules.{rules}
 use mathlib.Core.Path.{refl}
 use Rattle.edit_trials.proofs.Counting.{lost_all}
 use Rattle.edit_trials.proofs.lost.lost.Goals as goal

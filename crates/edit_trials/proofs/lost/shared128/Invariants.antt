@@ -1,16 +1,11 @@
 -- What the roles that are not in `rest` share with `own` is counted.
 -- Assumes nothing.
-use borrow.Author.Rules.{rules}
-use Prim.Native.Nat.{◌*◌, ◌^◌, ◌<◌}
-use native.Mathlib.Omega.{arith}
+use Prim.Native.Nat.{◌*◌}
 use lib.Count.{ones}
 use Rattle.sets_128.specs.Held.{set128}
 use Rattle.sets.specs.Sets.{◌∩◌}
-use Rattle.sets.proofs.Written.{words}
-use Rattle.sets_128.proofs.Held.{held128}
 use Rattle.model.specs.Lists.{set_at}
-use Rattle.hierarchy.proofs.Sieving.{fewer, not_empty, is_empty_lem}
-use Rattle.edit_trials.proofs.Counting.{Counted, counted_start, counted_more, counted_small, count_small, shared_one, shared_all}
+use Rattle.edit_trials.proofs.Counting.{Counted}
 use Rattle.edit_trials.proofs.lost.shared128.Given as goal
 
 abbrev pub invariant-loop-own : goal.invariant-loop-own

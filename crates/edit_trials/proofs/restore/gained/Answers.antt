@@ -1,6 +1,5 @@
 -- The row of the role, found and counted.
 -- Assumes nothing.
-use borrow.Author.Rules.{rules}
 use mathlib.Core.Path.{◌∙◌}
 use Rattle.edit_trials.proofs.Counting.{role_counted}
 use Rattle.edit_trials.proofs.restore.gained.Goals as goal

@@ -1,6 +1,5 @@
 -- The neighbours of k are those of the building in which it stands, and the counts are corrected by what it brings and takes.
 -- Assumes nothing.
-use borrow.Author.Rules.{rules}
 use Rattle.edit_trials.proofs.Moving.{tried_neighbours, tried_within, tried_gained, tried_exact}
 use Rattle.edit_trials.proofs.restore.if_restored.Goals as goal
 

@@ -1,6 +1,5 @@
 -- The neighbours of k are those that the table and the record tell, and the counts are corrected by what it has and what they take over.
 -- Assumes nothing.
-use borrow.Author.Rules.{rules}
 use Prim.Native.Nat.{◌^◌, ◌<◌}
 use Rattle.sets_128.specs.Held.{set128}
 use Rattle.sets.proofs.Written.{words}

@@ -1,6 +1,5 @@
 -- The three sums together.
 -- Assumes nothing.
-use borrow.Author.Rules.{rules}
 use mathlib.Core.Path.{refl}
 use native.Mathlib.Omega.{arith}
 use Rattle.edit_trials.proofs.Counting.{taken_counts}

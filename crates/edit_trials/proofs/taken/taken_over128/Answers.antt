@@ -3,14 +3,11 @@
 use borrow.Author.Rules.{rules}
 use Prim.Native.Nat.{◌^◌, ◌<◌}
 use native.Mathlib.Omega.{arith}
-use lib.Count.{ones}
 use Rattle.sets_128.specs.Held.{set128}
 use Rattle.sets.proofs.Written.{words}
 use Rattle.sets_128.proofs.Held.{held128}
-use Rattle.hierarchy.specs.Tables.{less_all}
 use Rattle.hierarchy.proofs.Sieving.{fewer, not_empty, is_empty_lem}
-use Rattle.edit_trials.specs.Trying.{others}
-use Rattle.edit_trials.proofs.Counting.{Counted, counted_start, counted_more, counted_small, count_small, taken_one, taken_all, taken_none}
+use Rattle.edit_trials.proofs.Counting.{counted_start, counted_more, counted_small, count_small, taken_one, taken_all, taken_none}
 use Rattle.std.proofs.Common.{ap}
 use mathlib.Core.Bool.{not}
 use Rattle.edit_trials.proofs.taken.taken_over128.Goals as goal

@@ -1,16 +1,10 @@
 -- What the roles that are not in `rest` take over is counted.
 -- Assumes nothing.
-use borrow.Author.Rules.{rules}
-use Prim.Native.Nat.{◌^◌, ◌<◌}
-use native.Mathlib.Omega.{arith}
 use lib.Count.{ones}
 use Rattle.sets_128.specs.Held.{set128}
-use Rattle.sets.proofs.Written.{words}
-use Rattle.sets_128.proofs.Held.{held128}
 use Rattle.hierarchy.specs.Tables.{less_all}
-use Rattle.hierarchy.proofs.Sieving.{fewer, not_empty, is_empty_lem}
 use Rattle.edit_trials.specs.Trying.{others}
-use Rattle.edit_trials.proofs.Counting.{Counted, counted_start, counted_more, counted_small, count_small, taken_one, taken_all, taken_none}
+use Rattle.edit_trials.proofs.Counting.{Counted}
 use Rattle.edit_trials.proofs.taken.taken_over128.Given as goal
 
 abbrev pub invariant-loop-own : goal.invariant-loop-own

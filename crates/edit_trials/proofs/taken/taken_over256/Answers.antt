@@ -5,16 +5,13 @@ use Rattle.sets_128.proofs.Set128.is_empty.Reads as set128-Set128-is-empty-reads
 use Rattle.sets_256.proofs.Set256.is_empty.Reads as set256-Set256-is-empty-reads
 use Prim.Native.Nat.{◌^◌, ◌<◌}
 use native.Mathlib.Omega.{arith}
-use lib.Count.{ones}
 use Rattle.sets_128.specs.Held.{set128}
 use Rattle.sets_256.specs.Held.{set256}
 use Rattle.sets.proofs.Written.{words}
 use Rattle.sets_128.proofs.Held.{held128}
 use Rattle.sets_256.proofs.Held.{held256}
-use Rattle.hierarchy.specs.Tables.{less_all}
 use Rattle.hierarchy.proofs.Sieving.{fewer, not_empty, is_empty_lem}
-use Rattle.edit_trials.specs.Trying.{others}
-use Rattle.edit_trials.proofs.Counting.{Counted, counted_start, counted_more, counted_small, count_small, taken_one, taken_all, taken_none}
+use Rattle.edit_trials.proofs.Counting.{counted_start, counted_more, counted_small, count_small, taken_one, taken_all, taken_none}
 use Rattle.std.proofs.Common.{ap}
 use mathlib.Core.Bool.{not}
 use Rattle.edit_trials.proofs.taken.taken_over256.Goals as goal

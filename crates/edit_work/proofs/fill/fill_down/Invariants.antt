@@ -1,18 +1,11 @@
 -- The entries below k are filled.
 -- Assumes nothing.
-use borrow.Author.Rules.{rules}
 use mathlib.Core.Path.{◌≡◌}
-use native.Mathlib.Omega.{arith}
-use Prim.Native.Nat.{◌-◌, ◌*◌, ◌^◌, ◌≤◌, ◌<◌}
+use Prim.Native.Nat.{◌-◌, ◌*◌, ◌≤◌}
 use lib.ListN.{length}
-use Rattle.sets_128.specs.Held.{set128}
 use Rattle.sets.specs.Sets.{◌∪◌, single}
-use Rattle.sets.proofs.Written.{words}
-use Rattle.sets_128.proofs.Held.{held128}
 use Rattle.model.specs.Lists.{set_at}
 use Rattle.tables.specs.Tables.{Filled}
-use Rattle.tables.proofs.Tables.{filled_none, filled_more}
-use Rattle.edit_work.proofs.Reaching.{put_self}
 use Rattle.edit_work.proofs.fill.fill_down.Given as goal
 
 abbrev pub invariant-loop-k : goal.invariant-loop-k

@@ -1,6 +1,5 @@
 -- The table of the roles down from each is placed with its columns.
 -- Assumes nothing.
-use borrow.Author.Rules.{rules}
 use native.Mathlib.Omega.{arith}
 use Rattle.edit_work.proofs.Reaching.{up-and_down}
 use Rattle.edit_work.proofs.fill.fill_reach.Goals as goal

@@ -1,6 +1,5 @@
 -- The table of the samples is placed with its columns.
 -- Assumes nothing.
-use borrow.Author.Rules.{rules}
 use Rattle.edit_work.proofs.Work.{sampled}
 use Rattle.edit_work.proofs.fill.fill_samples.Goals as goal
 

@@ -1,6 +1,5 @@
 -- The table's words are copied, and its columns stored after them.
 -- Assumes nothing.
-use borrow.Author.Rules.{rules}
 use Prim.Native.Nat.{◌+◌, ◌-◌, ◌*◌}
 use native.Mathlib.Omega.{arith}
 use Rattle.edit_work.proofs.Work.{placed}

@@ -1,15 +1,12 @@
 -- Of all samples those are left that have each role of sample i that is not in `rest`.
 -- Assumes nothing.
-use borrow.Author.Rules.{rules}
 use mathlib.Core.Path.{◌≡◌}
 use Prim.Native.Nat.{◌<◌}
 use native.Mathlib.Omega.{arith}
-use lib.Count.{ones}
 use lib.ListN.{length}
-use Rattle.sets_128.specs.Held.{set128}
 use Rattle.hierarchy.proofs.Sieving.{not_empty, is_empty_lem}
 use Rattle.edit_work.specs.Work.{work_length}
-use Rattle.edit_work.proofs.Narrowing.{Narrowing, narrowing_start, narrowing_fewer, narrowing_more, narrowing_all}
+use Rattle.edit_work.proofs.Narrowing.{narrowing_start, narrowing_fewer, narrowing_more, narrowing_all}
 use Rattle.std.proofs.Common.{ap}
 use mathlib.Core.Bool.{not}
 use Rattle.edit_work.proofs.further.further_from.Goals as goal

@@ -3,9 +3,7 @@
 use borrow.Author.Rules.{rules}
 use mathlib.Core.Path.{◌≡◌}
 use native.Mathlib.Omega.{arith}
-use Prim.Native.Nat.{◌-◌, ◌≤◌}
-use Rattle.sets_128.specs.Held.{set128}
-use Rattle.edit_work.specs.Work.{LowestOf}
+use Prim.Native.Nat.{◌-◌}
 use Rattle.edit_work.proofs.Reaching.{lowest-none, lowest_more}
 use Rattle.edit_work.proofs.holders.first_holders.Goals as goal
 

@@ -1,12 +1,8 @@
 -- The picks of the entries before p are found.
 -- Assumes nothing.
-use borrow.Author.Rules.{rules}
-use mathlib.Core.Path.{◌≡◌}
-use native.Mathlib.Omega.{arith}
 use Prim.Native.Nat.{◌-◌, ◌≤◌}
 use Rattle.sets_128.specs.Held.{set128}
 use Rattle.edit_work.specs.Work.{LowestOf}
-use Rattle.edit_work.proofs.Reaching.{lowest-none, lowest_more}
 use Rattle.edit_work.proofs.holders.first_holders.Given as goal
 
 abbrev pub invariant-loop-p : goal.invariant-loop-p

@@ -1,6 +1,5 @@
 -- The lowest item of a set that is not empty is put in.
 -- Assumes nothing.
-use borrow.Author.Rules.{rules}
 use mathlib.Core.Path.{sym, ◌∙◌}
 use Rattle.sets.proofs.Truth.{So-not, eqb_iff}
 use Rattle.edit_work.proofs.Reaching.{put_lowest, put_none}

@@ -1,13 +1,8 @@
 -- The users that are not in `rest` have their samples.
 -- Assumes nothing.
-use borrow.Author.Rules.{rules}
 use native.Mathlib.Omega.{arith}
-use lib.Count.{ones}
-use Rattle.sets_128.specs.Held.{set128}
 use Rattle.hierarchy.proofs.Sieving.{fewer, not_empty, is_empty_lem}
-use Rattle.indexes.specs.Index.{roles_start}
-use Rattle.edit_work.specs.Work.{entry}
-use Rattle.edit_work.proofs.Sampling.{Adding, adding_start, adding_more, adding_room, adding_all}
+use Rattle.edit_work.proofs.Sampling.{adding_start, adding_more, adding_room, adding_all}
 use Rattle.std.proofs.Common.{ap}
 use mathlib.Core.Bool.{not}
 use Rattle.edit_work.proofs.samples.add_samples.Goals as goal

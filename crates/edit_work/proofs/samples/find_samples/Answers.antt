@@ -6,7 +6,7 @@ use native.Mathlib.Omega.{arith}
 use Rattle.sets_128.specs.Held.{set128}
 use Rattle.sets.proofs.Written.{words}
 use Rattle.sets_128.proofs.Held.{held128}
-use Rattle.edit_work.proofs.Sampling.{Meeting, meeting_start, meeting_room, meeting_more, meeting_all}
+use Rattle.edit_work.proofs.Sampling.{meeting_start, meeting_room, meeting_more, meeting_all}
 use Rattle.edit_work.proofs.samples.find_samples.Goals as goal
 use Rattle.edit_work.proofs.samples.find_samples.Goals.{After-difference-users}
 

@@ -1,12 +1,7 @@
 -- Whoever has a role from k on is met.
 -- Assumes nothing.
-use borrow.Author.Rules.{rules}
-use Prim.Native.Nat.{◌^◌, ◌<◌}
-use native.Mathlib.Omega.{arith}
 use Rattle.sets_128.specs.Held.{set128}
-use Rattle.sets.proofs.Written.{words}
-use Rattle.sets_128.proofs.Held.{held128}
-use Rattle.edit_work.proofs.Sampling.{Meeting, meeting_start, meeting_room, meeting_more, meeting_all}
+use Rattle.edit_work.proofs.Sampling.{Meeting}
 use Rattle.edit_work.proofs.samples.find_samples.Given as goal
 
 abbrev pub invariant-loop-k : goal.invariant-loop-k

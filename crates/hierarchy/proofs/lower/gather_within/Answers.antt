@@ -3,11 +3,8 @@
 use borrow.Author.Rules.{rules}
 use mathlib.Core.Path.{◌≡◌, sym, ◌∙◌}
 use native.Mathlib.Omega.{arith}
-use Prim.Native.Nat.{◌+◌, ◌-◌, ◌*◌, ◌≤◌}
-use Rattle.sets_256.specs.Held.{set256}
-use Rattle.sets.specs.Sets.{subset, collect}
+use Prim.Native.Nat.{◌-◌}
 use Rattle.sets.proofs.Order.{collect-zero, collect-bit}
-use Rattle.model.specs.Lists.{set_at}
 use Rattle.hierarchy.proofs.lower.gather_within.Goals as goal
 
 pub loop-q-init : goal.loop-q-init

@@ -1,12 +1,9 @@
 -- The sets before q that lie within s are gathered.
 -- Assumes nothing.
-use borrow.Author.Rules.{rules}
-use mathlib.Core.Path.{◌≡◌, sym, ◌∙◌}
-use native.Mathlib.Omega.{arith}
+use mathlib.Core.Path.{◌≡◌}
 use Prim.Native.Nat.{◌+◌, ◌-◌, ◌*◌, ◌≤◌}
 use Rattle.sets_256.specs.Held.{set256}
 use Rattle.sets.specs.Sets.{subset, collect}
-use Rattle.sets.proofs.Order.{collect-zero, collect-bit}
 use Rattle.model.specs.Lists.{set_at}
 use Rattle.hierarchy.proofs.lower.gather_within.Given as goal
 

@@ -1,6 +1,5 @@
 -- The maximal ones of the lower roles that stand.
 -- Assumes nothing.
-use borrow.Author.Rules.{rules}
 use mathlib.Core.Path.{sym, ◌∙◌}
 use Rattle.hierarchy.proofs.Building.{absent, stands, juniors_found}
 use Rattle.model.proofs.Building.{absent_juniors}

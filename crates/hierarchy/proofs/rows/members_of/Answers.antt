@@ -1,6 +1,5 @@
 -- The users of k less those of its immediate seniors.
 -- Assumes nothing.
-use borrow.Author.Rules.{rules}
 use mathlib.Core.Path.{sym, ◌∙◌}
 use Rattle.hierarchy.proofs.Building.{absent, stands, members_found}
 use Rattle.model.proofs.Building.{absent_members}

@@ -1,6 +1,5 @@
 -- The set of k less those of its immediate juniors.
 -- Assumes nothing.
-use borrow.Author.Rules.{rules}
 use mathlib.Core.Path.{sym, ◌∙◌}
 use Rattle.hierarchy.proofs.Building.{absent, stands, permissions_found}
 use Rattle.model.proofs.Building.{absent_permissions}

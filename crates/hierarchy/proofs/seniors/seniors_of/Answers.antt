@@ -2,12 +2,8 @@
 -- Assumes nothing.
 use mathlib.Core.Path.{sym, ◌∙◌}
 use native.Mathlib.Omega.{arith}
-use lib.Count.{ones}
-use borrow.Author.Rules.{rules}
-use borrow.Author.Tests.{not-true, not-false}
-use Rattle.sets_128.specs.Held.{set128}
 use Rattle.hierarchy.proofs.Sieving.{fewer, not_empty, is_empty_lem}
-use Rattle.hierarchy.proofs.Seeking.{Seeking, sought_absent, sought_start, sought_more, sought_all}
+use Rattle.hierarchy.proofs.Seeking.{sought_absent, sought_start, sought_more, sought_all}
 use Rattle.std.proofs.Common.{ap}
 use mathlib.Core.Bool.{not}
 use Rattle.hierarchy.proofs.seniors.seniors_of.Goals as goal

@@ -1,13 +1,8 @@
 -- What is found are immediate seniors, and the others are left, or above one that is found.
 -- Assumes nothing.
-use mathlib.Core.Path.{sym, ◌∙◌}
-use native.Mathlib.Omega.{arith}
 use lib.Count.{ones}
-use borrow.Author.Rules.{rules}
-use borrow.Author.Tests.{not-true, not-false}
 use Rattle.sets_128.specs.Held.{set128}
-use Rattle.hierarchy.proofs.Sieving.{fewer, not_empty, is_empty_lem}
-use Rattle.hierarchy.proofs.Seeking.{Seeking, sought_absent, sought_start, sought_more, sought_all}
+use Rattle.hierarchy.proofs.Seeking.{Seeking}
 use Rattle.hierarchy.proofs.seniors.seniors_of.Given as goal
 
 abbrev pub invariant-loop-rest : goal.invariant-loop-rest

@@ -4,7 +4,6 @@ use mathlib.Core.Path.{◌≡◌, sym, ◌∙◌}
 use mathlib.Core.Bool.{Bool, ◌&&◌}
 use lib.Dec.{eqb}
 use Prim.Native.Nat.{ℕ}
-use borrow.Author.Rules.{rules}
 use Rattle.sets.specs.Sets.{has, ◌∩◌}
 use Rattle.sets.specs.Truth.{◌and◌}
 use Rattle.sets.proofs.Order.{put_in, left_out}

@@ -1,12 +1,7 @@
 -- What is left of s less the sets of js is what is left now less those of the rest.
 -- Assumes nothing.
-use borrow.Author.Rules.{rules}
-use mathlib.Core.Path.{◌≡◌, refl, sym, ◌∙◌, ap₂}
-use Prim.Native.Nat.{◌^◌, ◌<◌}
+use mathlib.Core.Path.{refl, sym, ◌∙◌, ap₂}
 use native.Mathlib.Omega.{arith}
-use lib.Count.{ones}
-use Rattle.sets_128.specs.Held.{set128}
-use Rattle.sets_256.specs.Held.{set256}
 use Rattle.sets.specs.Sets.{◌∖◌}
 use Rattle.sets.proofs.Written.{words}
 use Rattle.sets_256.proofs.Held.{held256}

@@ -1,18 +1,11 @@
 -- What is left of s less the sets of js is what is left now less those of the rest.
 -- Assumes nothing.
-use borrow.Author.Rules.{rules}
-use mathlib.Core.Path.{◌≡◌, refl, sym, ◌∙◌, ap₂}
+use mathlib.Core.Path.{◌≡◌}
 use Prim.Native.Nat.{◌^◌, ◌<◌}
-use native.Mathlib.Omega.{arith}
 use lib.Count.{ones}
 use Rattle.sets_128.specs.Held.{set128}
 use Rattle.sets_256.specs.Held.{set256}
-use Rattle.sets.specs.Sets.{◌∖◌}
-use Rattle.sets.proofs.Written.{words}
-use Rattle.sets_256.proofs.Held.{held256}
-use Rattle.sets.proofs.Order.{∖-lt}
 use Rattle.hierarchy.specs.Tables.{less_all}
-use Rattle.hierarchy.proofs.Sieving.{less_one, less_none, fewer, not_empty, is_empty_lem}
 use Rattle.hierarchy.proofs.sieve.less256.Given as goal
 
 abbrev pub invariant-loop-rest : goal.invariant-loop-rest

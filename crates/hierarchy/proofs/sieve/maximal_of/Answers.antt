@@ -1,10 +1,7 @@
 -- The maximal roles of s are those found, and the maximal ones of the rest.
 -- Assumes nothing.
-use borrow.Author.Rules.{rules}
 use native.Mathlib.Omega.{arith}
-use lib.Count.{ones}
-use Rattle.sets_128.specs.Held.{set128}
-use Rattle.hierarchy.proofs.Sieving.{Sieved, sieved_start, sieved_more, sieved_all, fewer_both, not_empty, is_empty_lem}
+use Rattle.hierarchy.proofs.Sieving.{sieved_start, sieved_more, sieved_all, fewer_both, not_empty, is_empty_lem}
 use mathlib.Core.Path.{ap}
 use mathlib.Core.Bool.{not}
 use Rattle.hierarchy.proofs.sieve.maximal_of.Goals as goal

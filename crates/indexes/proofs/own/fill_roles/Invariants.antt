@@ -1,20 +1,13 @@
 -- The entries of the users before u are filled, and the own roles among them are known.
 -- Assumes nothing.
-use borrow.Author.Rules.{rules}
-use mathlib.Core.Path.{◌≡◌, ◌∙◌}
-use native.Mathlib.Omega.{arith}
-use Prim.Native.Nat.{◌-◌, ◌^◌, ◌≤◌, ◌<◌}
+use mathlib.Core.Path.{◌≡◌}
+use Prim.Native.Nat.{◌-◌, ◌≤◌}
 use lib.ListN.{length}
 use Rattle.sets_128.specs.Held.{set128}
-use Rattle.sets.proofs.Written.{words}
-use Rattle.sets_128.proofs.Held.{held128}
 use Rattle.model.specs.Indexes.{roles_of_user}
 use Rattle.model.specs.State.{State, roles_of}
 use Rattle.tables.specs.Tables.{Filled}
-use Rattle.tables.proofs.Tables.{filled_none, filled_more}
 use Rattle.indexes.specs.Tables.{Source, Owned}
-use Rattle.indexes.proofs.Sources.{source_row}
-use Rattle.indexes.proofs.Owning.{own_start}
 use Rattle.indexes.proofs.own.fill_roles.Given as goal
 
 abbrev pub invariant-loop-u : goal.invariant-loop-u

@@ -1,6 +1,5 @@
 -- The role is known, or its entry is stored.
 -- Assumes nothing.
-use borrow.Author.Rules.{rules}
 use mathlib.Core.Path.{sym, ◌∙◌}
 use Prim.Native.Nat.{◌^◌, ◌<◌}
 use Rattle.sets_128.specs.Held.{set128}

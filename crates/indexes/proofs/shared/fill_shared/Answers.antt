@@ -2,27 +2,19 @@
 -- Assumes nothing.
 use borrow.Author.Rules.{rules}
 use mathlib.Core.Path.{◌≡◌, ◌∙◌, ap}
-use mathlib.Core.Bool.{So}
 use Prim.Native.Nat.{ℕ, ◌^◌, ◌<◌}
 use native.Mathlib.Omega.{arith}
-use lib.Count.{ones}
-use lib.ListN.{length}
 use Rattle.sets_128.specs.Held.{set128}
-use Rattle.sets.specs.Sets.{has, ◌∩◌, ◌∖◌, single}
+use Rattle.sets.specs.Sets.{◌∩◌, ◌∖◌, single}
 use Rattle.sets.proofs.Truth.{So-not}
 use Rattle.sets.proofs.Items.{has-zero}
 use Rattle.sets.proofs.Order.{∖-iff}
 use Rattle.sets.proofs.Written.{words}
 use Rattle.sets_128.proofs.Held.{held128}
-use Rattle.model.specs.Hierarchy.{candidate_count, authorised_users}
-use Rattle.model.specs.Indexes.{lower, roles_of_user}
-use Rattle.model.specs.State.{State, roles_of}
-use Rattle.model.specs.Record.{Limits}
-use Rattle.tables.specs.Tables.{HoldsSets}
-use Rattle.tables.proofs.Tables.{HeldBut, held_more}
+use Rattle.tables.proofs.Tables.{held_more}
 use Rattle.hierarchy.proofs.Sieving.{fewer, not_empty, is_empty_lem}
-use Rattle.indexes.specs.Tables.{Owned, shared_by}
-use Rattle.indexes.proofs.Owning.{shared_is, every_role, every_iff, lowered_start, to_do}
+use Rattle.indexes.specs.Tables.{shared_by}
+use Rattle.indexes.proofs.Owning.{shared_is, every_iff, lowered_start, to_do}
 use mathlib.Core.Bool.{not}
 use Rattle.indexes.proofs.shared.fill_shared.Goals as goal
 

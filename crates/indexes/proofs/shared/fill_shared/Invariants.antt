@@ -1,28 +1,20 @@
 -- The roles that are not in `rest` have their entries.
 -- Assumes nothing.
-use borrow.Author.Rules.{rules}
-use mathlib.Core.Path.{◌≡◌, ◌∙◌, ap}
+use mathlib.Core.Path.{◌≡◌}
 use mathlib.Core.Bool.{So}
-use Prim.Native.Nat.{ℕ, ◌^◌, ◌<◌}
-use native.Mathlib.Omega.{arith}
+use Prim.Native.Nat.{ℕ, ◌<◌}
 use lib.Count.{ones}
 use lib.ListN.{length}
 use Rattle.sets_128.specs.Held.{set128}
-use Rattle.sets.specs.Sets.{has, ◌∩◌, ◌∖◌, single}
-use Rattle.sets.proofs.Truth.{So-not}
-use Rattle.sets.proofs.Items.{has-zero}
-use Rattle.sets.proofs.Order.{∖-iff}
-use Rattle.sets.proofs.Written.{words}
-use Rattle.sets_128.proofs.Held.{held128}
+use Rattle.sets.specs.Sets.{has}
 use Rattle.model.specs.Hierarchy.{candidate_count, authorised_users}
 use Rattle.model.specs.Indexes.{lower, roles_of_user}
 use Rattle.model.specs.State.{State, roles_of}
 use Rattle.model.specs.Record.{Limits}
 use Rattle.tables.specs.Tables.{HoldsSets}
-use Rattle.tables.proofs.Tables.{HeldBut, held_more}
-use Rattle.hierarchy.proofs.Sieving.{fewer, not_empty, is_empty_lem}
-use Rattle.indexes.specs.Tables.{Owned, shared_by}
-use Rattle.indexes.proofs.Owning.{shared_is, every_role, every_iff, lowered_start, to_do}
+use Rattle.tables.proofs.Tables.{HeldBut}
+use Rattle.indexes.specs.Tables.{Owned}
+use Rattle.indexes.proofs.Owning.{every_role}
 use Rattle.indexes.proofs.shared.fill_shared.Given as goal
 
 abbrev pub invariant-loop-some : goal.invariant-loop-some

@@ -1,15 +1,11 @@
 -- What is left are the roles of all users that were met.
 -- Assumes nothing.
-use borrow.Author.Rules.{rules}
 use mathlib.Core.Bool.{So}
 use Prim.Native.Nat.{ℕ}
-use native.Mathlib.Omega.{arith}
 use lib.Count.{ones}
 use Rattle.sets_128.specs.Held.{set128}
 use Rattle.sets.specs.Sets.{has}
-use Rattle.sets.proofs.Order.{∖-iff}
-use Rattle.hierarchy.proofs.Sieving.{fewer, not_empty, is_empty_lem}
-use Rattle.indexes.proofs.Owning.{Sharing, sharing_start, sharing_more, sharing_end}
+use Rattle.indexes.proofs.Owning.{Sharing}
 use Rattle.indexes.proofs.shared.shared.Given as goal
 
 abbrev pub invariant-loop-rest : goal.invariant-loop-rest

@@ -1,6 +1,5 @@
 -- The head and then the lines.
 -- Assumes nothing.
-use borrow.Author.Rules.{rules}
 use native.Mathlib.Omega.{arith}
 use Rattle.listing.proofs.Rendered.{sound-limited, quality_is, count_is, roles_put}
 use Rattle.listing.proofs.roles.put_roles.Goals as goal

@@ -1,6 +1,5 @@
 -- What is listed of the bytes read is the listing of the text.
 -- Assumes nothing.
-use borrow.Author.Rules.{rules}
 use mathlib.Core.Path.{sym}
 use native.Mathlib.Omega.{arith}
 use lib.ListN.{length}

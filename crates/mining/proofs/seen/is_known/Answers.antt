@@ -4,7 +4,6 @@ use mathlib.Core.Path.{sym, ◌∙◌}
 use mathlib.Core.Logic.{◌⊎◌}
 use borrow.Author.Tests.{eqb-true}
 use Rattle.mining.proofs.Seeing.{known_empty, known_there}
-use borrow.Author.Rules.{rules}
 use Rattle.mining.proofs.seen.is_known.Goals as goal
 
 pub returns-then-equals : goal.returns-then-equals

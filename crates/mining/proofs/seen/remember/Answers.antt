@@ -5,7 +5,6 @@ use Rattle.sets_256.specs.Held.{set256}
 use Rattle.sets.proofs.Written.{words}
 use Rattle.sets_256.proofs.Held.{held256}
 use Rattle.mining.proofs.Seeing.{slot_stored}
-use borrow.Author.Rules.{rules}
 use Rattle.mining.proofs.seen.remember.Goals as goal
 
 pub returns : goal.returns

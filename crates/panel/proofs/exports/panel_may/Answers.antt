@@ -1,6 +1,5 @@
 -- The call's own promise, and the conditions that follow from it.
 -- Assumes nothing.
-use borrow.Author.Rules.{rules}
 use Rattle.model.proofs.Conditions.{may_conditions}
 use Rattle.panel.proofs.exports.panel_may.Goals as goal
 

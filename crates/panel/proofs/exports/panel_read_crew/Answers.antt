@@ -1,6 +1,5 @@
 -- The call's own promise, and the conditions that follow from it.
 -- Assumes nothing.
-use borrow.Author.Rules.{rules}
 use Rattle.text_crew.proofs.Conditions.{read_conditions}
 use Rattle.panel.proofs.exports.panel_read_crew.Goals as goal
 

@@ -1,8 +1,6 @@
 -- Three ways: the list can't be read; mining refuses; or condition 3.
 -- Assumes nothing.
-use borrow.Author.Rules.{rules}
 use mathlib.Core.Path.{sym, ◌∙◌}
-use borrow.Author.Tests.{not-true, not-false}
 use Rattle.panel.proofs.Serving.{served_unreadable, served_refused, served_mined}
 use Rattle.panel.proofs.list.serve.Goals as goal
 

@@ -1,6 +1,5 @@
 -- A way for each kind.
 -- Assumes nothing.
-use borrow.Author.Rules.{rules}
 use mathlib.Core.Path.{refl}
 use Rattle.panel.proofs.Serving.{served_strike, served_restore, served_eliminate, served_review}
 use Rattle.panel.proofs.list.serve_call.Goals as goal

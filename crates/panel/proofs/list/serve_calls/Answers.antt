@@ -1,12 +1,10 @@
 -- The first i calls are made, and their answers written.
 -- Assumes nothing.
-use borrow.Author.Rules.{rules}
-use mathlib.Core.Path.{◌≡◌, refl}
-use Prim.Native.Nat.{◌-◌, ◌≤◌}
+use mathlib.Core.Path.{refl}
+use Prim.Native.Nat.{◌-◌}
 use native.Mathlib.Omega.{arith}
-use lib.ListN.{length}
 use Rattle.calls_list.proofs.Reading.{readable_sizes}
-use Rattle.panel.proofs.Serving.{Serving, serving_start, serving_more, serving_all}
+use Rattle.panel.proofs.Serving.{serving_start, serving_more, serving_all}
 use Rattle.panel.proofs.list.serve_calls.Goals as goal
 
 pub loop-i-init : goal.loop-i-init

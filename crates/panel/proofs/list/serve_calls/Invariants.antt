@@ -1,12 +1,9 @@
 -- The first i calls are made, and their answers written.
 -- Assumes nothing.
-use borrow.Author.Rules.{rules}
-use mathlib.Core.Path.{◌≡◌, refl}
+use mathlib.Core.Path.{◌≡◌}
 use Prim.Native.Nat.{◌-◌, ◌≤◌}
-use native.Mathlib.Omega.{arith}
 use lib.ListN.{length}
-use Rattle.calls_list.proofs.Reading.{readable_sizes}
-use Rattle.panel.proofs.Serving.{Serving, serving_start, serving_more, serving_all}
+use Rattle.panel.proofs.Serving.{Serving}
 use Rattle.panel.proofs.list.serve_calls.Given as goal
 
 abbrev pub invariant-loop-i : goal.invariant-loop-i

@@ -6,8 +6,7 @@ use lib.Count.{ones-le}
 use Rattle.sets_128.specs.Held.{set128}
 use Rattle.sets.proofs.Written.{words}
 use Rattle.sets_128.proofs.Held.{held128}
-use Rattle.quality.proofs.Tally.{Tallied, tallied_none, tallied_more, tallied_all}
-use borrow.Author.Rules.{rules}
+use Rattle.quality.proofs.Tally.{tallied_none, tallied_more, tallied_all}
 use Rattle.quality.proofs.counts.count128.Goals as goal
 
 pub loop-i-init : goal.loop-i-init

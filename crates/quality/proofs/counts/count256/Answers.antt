@@ -6,8 +6,7 @@ use lib.Count.{ones-le}
 use Rattle.sets_256.specs.Held.{set256}
 use Rattle.sets.proofs.Written.{words}
 use Rattle.sets_256.proofs.Held.{held256}
-use Rattle.quality.proofs.Tally.{Tallied, tallied_none, tallied_more, tallied_all}
-use borrow.Author.Rules.{rules}
+use Rattle.quality.proofs.Tally.{tallied_none, tallied_more, tallied_all}
 use Rattle.quality.proofs.counts.count256.Goals as goal
 
 pub loop-i-init : goal.loop-i-init

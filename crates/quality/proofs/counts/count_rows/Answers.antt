@@ -8,7 +8,6 @@ use Rattle.sets_128.specs.Held.{set128}
 use Rattle.sets.proofs.Written.{words}
 use Rattle.sets_128.proofs.Held.{held128}
 use Rattle.quality.proofs.Tally.{counts_found}
-use borrow.Author.Rules.{rules}
 use Rattle.quality.proofs.counts.count_rows.Goals as goal
 
 pub returns : goal.returns

@@ -1,6 +1,5 @@
 -- Each test by itself, and the last.
 -- Assumes nothing.
-use borrow.Author.Rules.{rules}
 use native.Mathlib.Omega.{arith}
 use Rattle.quality.proofs.Limits.{tolerance_not, tolerance_last}
 use Rattle.quality.proofs.weights.tolerance_allowed.Goals as goal

@@ -1,6 +1,5 @@
 -- Eight stores, in their order.
 -- Assumes nothing.
-use borrow.Author.Rules.{rules}
 use native.Mathlib.Omega.{arith}
 use lib.ListN.{length-set}
 use Rattle.records.proofs.Beginning.{stored8}

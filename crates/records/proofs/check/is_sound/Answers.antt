@@ -1,7 +1,6 @@
 -- Each part is judged in turn.
 -- Assumes nothing.
 use borrow.Author.Rules.{rules}
-use borrow.Author.Tests.{not-false}
 use mathlib.Core.Path.{sym, ◌∙◌, subst}
 use mathlib.Core.Bool.{So}
 use Prim.Native.Nat.{◌+◌, ◌*◌, ◌≤◌}

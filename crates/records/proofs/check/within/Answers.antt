@@ -1,7 +1,5 @@
 -- The two tests, one after the other.
 -- Assumes nothing.
-use borrow.Author.Rules.{rules}
-use borrow.Author.Tests.{not-false}
 use mathlib.Core.Path.{sym, ◌∙◌}
 use native.Mathlib.Omega.{arith}
 use Rattle.model.proofs.Record.{within_limits_iff}

@@ -2,11 +2,8 @@
 -- Assumes nothing.
 use borrow.Author.Rules.{rules}
 use mathlib.Core.Path.{◌≡◌, sym, ◌∙◌}
-use mathlib.Core.Bool.{So}
 use native.Mathlib.Nat.{not-suc-le-zero}
-use Prim.Native.Nat.{◌-◌, ◌≤◌}
-use borrow.Author.Tests.{not-true, not-false}
-use Rattle.sets.specs.Truth.{all}
+use Prim.Native.Nat.{◌-◌}
 use Rattle.sets.proofs.Truth.{So-not, all_of, all_more, all_fails, all_through}
 use Rattle.model.specs.Lists.{set_at}
 use Rattle.model.specs.Record.{crew_start}

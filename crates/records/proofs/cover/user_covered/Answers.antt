@@ -1,6 +1,5 @@
 -- No roles, the row itself, or nothing left of the row without the sets of the maximal roles.
 -- Assumes nothing.
-use borrow.Author.Rules.{rules}
 use mathlib.Core.Path.{sym, ◌∙◌, ap}
 use Prim.Native.Nat.{ℕ}
 use lib.Dec.{eqb}

@@ -1,6 +1,5 @@
 -- The number of candidates, then the words that nothing uses, then the candidates.
 -- Assumes nothing.
-use borrow.Author.Rules.{rules}
 use mathlib.Core.Path.{sym, ◌∙◌}
 use Prim.Native.Nat.{ℕ, ◌^◌, ◌<◌}
 use lib.ListN.{get_or}

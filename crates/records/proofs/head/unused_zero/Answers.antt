@@ -1,6 +1,5 @@
 -- Three stretches, one after the other.
 -- Assumes nothing.
-use borrow.Author.Rules.{rules}
 use Rattle.sets.proofs.Telling.{no_of, failed, passed}
 use Rattle.records.proofs.head.unused_zero.Goals as goal
 use Rattle.std.proofs.Common.{ap}

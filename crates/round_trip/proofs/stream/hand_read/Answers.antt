@@ -1,6 +1,5 @@
 -- What comes back of the bytes read is what comes back of the text.
 -- Assumes nothing.
-use borrow.Author.Rules.{rules}
 use mathlib.Core.Path.{sym}
 use native.Mathlib.Omega.{arith}
 use lib.ListN.{length}

@@ -1,6 +1,5 @@
 -- The roles of the standing set have no rows yet, and the others none ever.
 -- Assumes nothing.
-use borrow.Author.Rules.{rules}
 use native.Mathlib.Omega.{arith}
 use Rattle.rows.proofs.Building.{rows_built}
 use Rattle.rows.proofs.build.build_rows.Goals as goal

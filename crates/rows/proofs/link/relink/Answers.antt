@@ -1,16 +1,13 @@
 -- The entries of the roles in `rest` still have to be altered.
 -- Assumes nothing.
 use borrow.Author.Rules.{rules}
-use mathlib.Core.Path.{◌≡◌}
-use Prim.Native.Nat.{ℕ, ◌^◌, ◌<◌}
+use Prim.Native.Nat.{◌^◌, ◌<◌}
 use native.Mathlib.Omega.{arith}
-use lib.Count.{ones}
-use lib.ListN.{length}
 use Rattle.sets_128.specs.Held.{set128}
 use Rattle.sets.proofs.Written.{words}
 use Rattle.sets_128.proofs.Held.{held128}
 use Rattle.hierarchy.proofs.Sieving.{fewer, not_empty, is_empty_lem}
-use Rattle.rows.proofs.Linking.{Relinked, relinked_start, relinked_more, relinked_all}
+use Rattle.rows.proofs.Linking.{relinked_start, relinked_more, relinked_all}
 use Rattle.std.proofs.Common.{ap}
 use mathlib.Core.Bool.{not}
 use Rattle.rows.proofs.link.relink.Goals as goal

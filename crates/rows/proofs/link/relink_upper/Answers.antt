@@ -1,6 +1,5 @@
 -- The row is rewritten, and the table altered where its juniors were.
 -- Assumes nothing.
-use borrow.Author.Rules.{rules}
 use native.Mathlib.Omega.{arith}
 use Rattle.rows.proofs.Rewriting.{linked_upper}
 use Rattle.rows.proofs.link.relink_upper.Goals as goal

@@ -1,16 +1,13 @@
 -- The roles of `rest` still have their old rows, and the table holds the seniors of the record as it is.
 -- Assumes nothing.
-use borrow.Author.Rules.{rules}
 use mathlib.Core.Path.{◌≡◌}
 use Prim.Native.Nat.{ℕ}
-use native.Mathlib.Omega.{arith}
 use lib.Count.{ones}
 use lib.ListN.{length}
 use Rattle.sets_128.specs.Held.{set128}
 use Rattle.model.specs.Hierarchy.{RoleRows}
 use Rattle.model.specs.Record.{record_length}
 use Rattle.model.specs.State.{State}
-use Rattle.hierarchy.proofs.Sieving.{fewer, not_empty, is_empty_lem}
 use Rattle.rows.specs.Linked.{Linked}
 use Rattle.rows.specs.Partway.{Partway, Target}
 use Rattle.rows.proofs.link.relink_uppers.Given as goal

@@ -1,5 +1,4 @@
 -- Assumes nothing.
-use borrow.Author.Rules.{rules}
 use mathlib.Core.Path.{sym, ◌∙◌}
 use Rattle.sets.proofs.Truth.{ltb_iff, if-true, if-false}
 use Rattle.rows.proofs.link.with_or_without.Goals as goal

@@ -2,16 +2,10 @@
 -- Assumes nothing.
 use borrow.Author.Rules.{rules}
 use mathlib.Core.Path.{◌≡◌, ◌∙◌}
-use Prim.Native.Nat.{ℕ, ◌-◌, ◌≤◌}
+use Prim.Native.Nat.{◌-◌}
 use native.Mathlib.Omega.{arith}
-use lib.ListN.{length}
 use Rattle.sets_128.specs.Held.{set128}
-use Rattle.model.specs.Hierarchy.{RoleRows}
-use Rattle.model.specs.Record.{record_length}
-use Rattle.model.specs.State.{State}
-use Rattle.rows.specs.Linked.{Linked}
-use Rattle.rows.specs.Partway.{Partway, Target}
-use Rattle.rows.proofs.Rewriting.{linked_still, from, from_start, from_more, from_all}
+use Rattle.rows.proofs.Rewriting.{linked_still, from_start, from_more, from_all}
 use Rattle.rows.proofs.lower.fill_lowers.Goals as goal
 
 pub loop-j-init : goal.loop-j-init

@@ -1,9 +1,7 @@
 -- The roles from number j on still have their old members.
 -- Assumes nothing.
-use borrow.Author.Rules.{rules}
-use mathlib.Core.Path.{◌≡◌, ◌∙◌}
+use mathlib.Core.Path.{◌≡◌}
 use Prim.Native.Nat.{ℕ, ◌-◌, ◌≤◌}
-use native.Mathlib.Omega.{arith}
 use lib.ListN.{length}
 use Rattle.sets_128.specs.Held.{set128}
 use Rattle.model.specs.Hierarchy.{RoleRows}
@@ -11,7 +9,7 @@ use Rattle.model.specs.Record.{record_length}
 use Rattle.model.specs.State.{State}
 use Rattle.rows.specs.Linked.{Linked}
 use Rattle.rows.specs.Partway.{Partway, Target}
-use Rattle.rows.proofs.Rewriting.{linked_still, from, from_start, from_more, from_all}
+use Rattle.rows.proofs.Rewriting.{from}
 use Rattle.rows.proofs.lower.fill_lowers.Given as goal
 
 abbrev pub invariant-loop-j : goal.invariant-loop-j

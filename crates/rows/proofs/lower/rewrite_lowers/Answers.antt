@@ -2,17 +2,9 @@
 -- Assumes nothing.
 use borrow.Author.Rules.{rules}
 use mathlib.Core.Path.{◌≡◌}
-use Prim.Native.Nat.{ℕ}
 use native.Mathlib.Omega.{arith}
-use lib.Count.{ones}
-use lib.ListN.{length}
 use Rattle.sets_128.specs.Held.{set128}
-use Rattle.model.specs.Hierarchy.{RoleRows}
-use Rattle.model.specs.Record.{record_length}
-use Rattle.model.specs.State.{State}
 use Rattle.hierarchy.proofs.Sieving.{fewer, not_empty, is_empty_lem}
-use Rattle.rows.specs.Linked.{Linked}
-use Rattle.rows.specs.Partway.{Partway, Target}
 use Rattle.rows.proofs.Rewriting.{linked_still}
 use Rattle.std.proofs.Common.{ap}
 use mathlib.Core.Bool.{not}

@@ -1,19 +1,15 @@
 -- The roles of `rest` still have their old members.
 -- Assumes nothing.
-use borrow.Author.Rules.{rules}
 use mathlib.Core.Path.{◌≡◌}
 use Prim.Native.Nat.{ℕ}
-use native.Mathlib.Omega.{arith}
 use lib.Count.{ones}
 use lib.ListN.{length}
 use Rattle.sets_128.specs.Held.{set128}
 use Rattle.model.specs.Hierarchy.{RoleRows}
 use Rattle.model.specs.Record.{record_length}
 use Rattle.model.specs.State.{State}
-use Rattle.hierarchy.proofs.Sieving.{fewer, not_empty, is_empty_lem}
 use Rattle.rows.specs.Linked.{Linked}
 use Rattle.rows.specs.Partway.{Partway, Target}
-use Rattle.rows.proofs.Rewriting.{linked_still}
 use Rattle.rows.proofs.lower.rewrite_lowers.Given as goal
 
 abbrev pub invariant-loop-standing : goal.invariant-loop-standing

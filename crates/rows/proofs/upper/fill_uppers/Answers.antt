@@ -2,15 +2,10 @@
 -- Assumes nothing.
 use borrow.Author.Rules.{rules}
 use mathlib.Core.Path.{◌≡◌, ◌∙◌}
-use Prim.Native.Nat.{ℕ, ◌-◌, ◌≤◌}
+use Prim.Native.Nat.{◌-◌}
 use native.Mathlib.Omega.{arith}
-use lib.ListN.{length}
 use Rattle.sets_128.specs.Held.{set128}
-use Rattle.model.specs.Hierarchy.{RoleRows}
-use Rattle.model.specs.Record.{record_length}
-use Rattle.model.specs.State.{State}
-use Rattle.rows.specs.Partway.{Partway, Target}
-use Rattle.rows.proofs.Rewriting.{from, from_start, from_more, from_all}
+use Rattle.rows.proofs.Rewriting.{from_start, from_more, from_all}
 use Rattle.rows.proofs.upper.fill_uppers.Goals as goal
 
 pub loop-k-init : goal.loop-k-init

@@ -1,6 +1,5 @@
 -- Both entries of the row are those of the new building.
 -- Assumes nothing.
-use borrow.Author.Rules.{rules}
 use Rattle.rows.proofs.Rewriting.{upper_rewritten}
 use Rattle.rows.proofs.upper.rewrite_upper.Goals as goal
 

@@ -1,6 +1,5 @@
 -- Three stretches, one after the other.
 -- Assumes nothing.
-use borrow.Author.Rules.{rules}
 use Rattle.sets.proofs.Telling.{no_of, failed, passed}
 use Rattle.rows_check.proofs.all.none_behind.Goals as goal
 use Rattle.std.proofs.Common.{ap}

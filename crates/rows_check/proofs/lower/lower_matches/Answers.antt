@@ -1,6 +1,5 @@
 -- The entry is that of the building, by the seniors that the table holds.
 -- Assumes nothing.
-use borrow.Author.Rules.{rules}
 use mathlib.Core.Path.{sym, ◌∙◌}
 use Prim.Native.Nat.{◌^◌, ◌<◌}
 use Rattle.sets.proofs.Truth.{eqb_iff}

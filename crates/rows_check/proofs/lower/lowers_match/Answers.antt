@@ -1,15 +1,9 @@
 -- The roles before j have their entries.
 -- Assumes nothing.
 use borrow.Author.Rules.{rules}
-use mathlib.Core.Path.{◌≡◌}
 use native.Mathlib.Nat.{not-suc-le-zero}
 use native.Mathlib.Omega.{arith}
-use Prim.Native.Nat.{ℕ, ◌-◌, ◌≤◌, ◌<◌}
-use Rattle.sets_128.specs.Held.{set128}
-use Rattle.model.specs.State.{State, roles_of}
-use Rattle.model.specs.Hierarchy.{immediate_juniors}
-use Rattle.rows.specs.Linked.{juniors_in, Linked}
-use Rattle.rows.specs.Partway.{Target}
+use Prim.Native.Nat.{◌-◌}
 use Rattle.rows_check.specs.Held.{LowerHeld}
 use Rattle.sets.proofs.Telling.{no_of, yes_of, failed, passed, one_more}
 use Rattle.rows_check.proofs.lower.lowers_match.Goals as goal

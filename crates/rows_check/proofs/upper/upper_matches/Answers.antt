@@ -1,6 +1,5 @@
 -- Both entries are those of the building.
 -- Assumes nothing.
-use borrow.Author.Rules.{rules}
 use mathlib.Core.Path.{sym, ◌∙◌}
 use Rattle.sets.proofs.Truth.{eqb_iff}
 use Rattle.rows.proofs.Rewriting.{upper_computed}

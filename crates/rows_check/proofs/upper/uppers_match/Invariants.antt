@@ -1,14 +1,10 @@
 -- The roles before k have their entries.
 -- Assumes nothing.
-use borrow.Author.Rules.{rules}
-use native.Mathlib.Nat.{not-suc-le-zero}
-use native.Mathlib.Omega.{arith}
 use Prim.Native.Nat.{ℕ, ◌-◌, ◌≤◌, ◌<◌}
 use Rattle.sets_128.specs.Held.{set128}
 use Rattle.model.specs.State.{State}
 use Rattle.rows.specs.Partway.{Headed, Target}
 use Rattle.rows_check.specs.Held.{UpperHeld}
-use Rattle.sets.proofs.Telling.{no_of, yes_of, failed, passed, one_more}
 use Rattle.rows_check.proofs.upper.uppers_match.Given as goal
 
 abbrev pub invariant-loop-k : goal.invariant-loop-k

@@ -1,6 +1,5 @@
 -- `bit_at` meets its contract: the item stands in word j or in another.
 -- Assumes nothing.
-use borrow.Author.Rules.{rules}
 use mathlib.Core.Path.{sym, ◌∙◌}
 use Rattle.sets.proofs.Written.{bit_there, bit_elsewhere}
 use Rattle.sets.proofs.word.bit_at.Goals as goal

@@ -1,7 +1,6 @@
 -- `highest_or` meets its contract: a word that is not 0 has at most 63 leading zeros.
 -- Assumes nothing.
 use native.Mathlib.Omega.{arith}
-use borrow.Author.Rules.{rules}
 use Rattle.sets.proofs.Extremes.{leading_lt}
 use Rattle.sets.proofs.Written.{if_equal, if_other}
 use Rattle.sets.proofs.word.highest_or.Goals as goal

@@ -1,6 +1,5 @@
 -- `mask_below` meets its contract: none of the word's items, all of them, or the lowest ones are below n.
 -- Assumes nothing.
-use borrow.Author.Rules.{rules}
 use Rattle.sets.proofs.Written.{mask_none, mask_all, mask_some, mask_pos}
 use Rattle.sets.proofs.word.mask_below.Goals as goal
 

@@ -1,6 +1,5 @@
 -- `with_bit` meets its contract, by `bit_in` at the item's bit.
 -- Assumes nothing.
-use borrow.Author.Rules.{rules}
 use native.Mathlib.Omega.{arith}
 use Rattle.sets.proofs.Written.{bit_in}
 use Rattle.sets.proofs.word.with_bit.Goals as goal

@@ -1,6 +1,5 @@
 -- `Set128::below` meets its contract, by `below_masks` at two words.
 -- Assumes nothing.
-use borrow.Author.Rules.{rules}
 use Rattle.sets_128.specs.Held.{set128}
 use Rattle.sets.proofs.Below.{below_masks}
 use Rattle.sets_128.proofs.Set128.below.Goals as goal

@@ -1,6 +1,5 @@
 -- `Set128::contains` meets its contract, by `test_bit`.
 -- Assumes nothing.
-use borrow.Author.Rules.{rules}
 use Rattle.sets.proofs.Written.{test_bit}
 use Rattle.sets_128.proofs.Set128.contains.Goals as goal
 

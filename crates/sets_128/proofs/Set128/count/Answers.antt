@@ -1,6 +1,5 @@
 -- `Set128::count` meets its contract, by `count_words` at two words.
 -- Assumes nothing.
-use borrow.Author.Rules.{rules}
 use native.Mathlib.Omega.{arith}
 use Rattle.sets_128.specs.Held.{set128}
 use Rattle.sets.proofs.Written.{words, count_words}

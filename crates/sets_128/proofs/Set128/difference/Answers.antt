@@ -1,6 +1,5 @@
 -- `Set128::difference` meets its contract, by `without_words` at two words.
 -- Assumes nothing.
-use borrow.Author.Rules.{rules}
 use Rattle.sets_128.specs.Held.{set128}
 use Rattle.sets.proofs.Written.{words, without_words}
 use Rattle.sets_128.proofs.Set128.difference.Goals as goal

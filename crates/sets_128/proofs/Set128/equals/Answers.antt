@@ -1,6 +1,5 @@
 -- `Set128::equals` meets its contract, by `equal_words` at two words.
 -- Assumes nothing.
-use borrow.Author.Rules.{rules}
 use Rattle.sets_128.specs.Held.{set128}
 use Rattle.sets.proofs.Written.{words, equal_words}
 use Rattle.sets_128.proofs.Set128.equals.Goals as goal

@@ -1,6 +1,5 @@
 -- `Set128::highest` meets its contract, by `highest_words` at two words.
 -- Assumes nothing.
-use borrow.Author.Rules.{rules}
 use Rattle.sets_128.specs.Held.{set128}
 use Rattle.sets.proofs.Written.{words, highest_words}
 use Rattle.sets_128.proofs.Set128.highest.Goals as goal

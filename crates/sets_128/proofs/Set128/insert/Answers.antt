@@ -1,6 +1,5 @@
 -- `Set128::insert` meets its contract, by `with_only`.
 -- Assumes nothing.
-use borrow.Author.Rules.{rules}
 use mathlib.Core.Path.{◌∙◌}
 use Rattle.sets.proofs.Written.{with_only}
 use Rattle.sets_128.proofs.Set128.insert.Goals as goal

@@ -1,6 +1,5 @@
 -- `Set128::intersection` meets its contract, by `and_words` at two words.
 -- Assumes nothing.
-use borrow.Author.Rules.{rules}
 use Rattle.sets_128.specs.Held.{set128}
 use Rattle.sets.proofs.Written.{words, and_words}
 use Rattle.sets_128.proofs.Set128.intersection.Goals as goal

@@ -1,6 +1,5 @@
 -- `Set128::is_empty` meets its contract, by `empty_words` at two words.
 -- Assumes nothing.
-use borrow.Author.Rules.{rules}
 use Rattle.sets_128.specs.Held.{set128}
 use Rattle.sets.proofs.Written.{words, empty_words}
 use Rattle.sets_128.proofs.Set128.is_empty.Goals as goal

@@ -1,6 +1,5 @@
 -- `Set128::is_subset` meets its contract, by `subset_test`.
 -- Assumes nothing.
-use borrow.Author.Rules.{rules}
 use Rattle.sets.proofs.Written.{subset_test}
 use Rattle.sets_128.proofs.Set128.is_subset.Goals as goal
 

@@ -1,6 +1,5 @@
 -- `Set128::less` meets its contract, by `less_words` at two words.
 -- Assumes nothing.
-use borrow.Author.Rules.{rules}
 use Rattle.sets_128.specs.Held.{set128}
 use Rattle.sets.proofs.Written.{words, less_words}
 use Rattle.sets_128.proofs.Set128.less.Goals as goal

@@ -1,6 +1,5 @@
 -- `Set128::lowest` meets its contract, by `lowest_words` at two words.
 -- Assumes nothing.
-use borrow.Author.Rules.{rules}
 use Rattle.sets_128.specs.Held.{set128}
 use Rattle.sets.proofs.Written.{words, lowest_words}
 use Rattle.sets_128.proofs.Set128.lowest.Goals as goal

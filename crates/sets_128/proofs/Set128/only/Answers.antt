@@ -1,6 +1,5 @@
 -- `Set128::only` meets its contract, by `only_words` at two words.
 -- Assumes nothing.
-use borrow.Author.Rules.{rules}
 use Rattle.sets_128.specs.Held.{set128}
 use Rattle.sets.proofs.Written.{only_words}
 use Rattle.sets_128.proofs.Set128.only.Goals as goal

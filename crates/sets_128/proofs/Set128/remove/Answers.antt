@@ -1,6 +1,5 @@
 -- `Set128::remove` meets its contract, by `without_only`.
 -- Assumes nothing.
-use borrow.Author.Rules.{rules}
 use mathlib.Core.Path.{◌∙◌}
 use Rattle.sets.proofs.Written.{words, without_only}
 use Rattle.sets_128.proofs.Held.{held128}

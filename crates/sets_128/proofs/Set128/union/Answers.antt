@@ -1,6 +1,5 @@
 -- `Set128::union` meets its contract, by `or_words` at two words.
 -- Assumes nothing.
-use borrow.Author.Rules.{rules}
 use Rattle.sets_128.specs.Held.{set128}
 use Rattle.sets.proofs.Written.{words, or_words}
 use Rattle.sets_128.proofs.Set128.union.Goals as goal

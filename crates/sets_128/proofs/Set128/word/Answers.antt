@@ -1,6 +1,5 @@
 -- `Set128::word` meets its contract, by `word_in` and `word_past` at two words.
 -- Assumes nothing.
-use borrow.Author.Rules.{rules}
 use Rattle.sets_128.specs.Held.{set128}
 use Rattle.sets.proofs.Written.{words, word_in, word_past}
 use Rattle.sets_128.proofs.Set128.word.Goals as goal

@@ -1,6 +1,5 @@
 -- `Set256::below` meets its contract, by `below_masks` at four words.
 -- Assumes nothing.
-use borrow.Author.Rules.{rules}
 use Rattle.sets_256.specs.Held.{set256}
 use Rattle.sets.proofs.Below.{below_masks}
 use Rattle.sets_256.proofs.Set256.below.Goals as goal

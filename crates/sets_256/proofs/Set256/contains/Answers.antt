@@ -1,6 +1,5 @@
 -- `Set256::contains` meets its contract, by `test_bit`.
 -- Assumes nothing.
-use borrow.Author.Rules.{rules}
 use Rattle.sets.proofs.Written.{test_bit}
 use Rattle.sets_256.proofs.Set256.contains.Goals as goal
 

@@ -1,6 +1,5 @@
 -- `Set256::count` meets its contract, by `count_words` at four words.
 -- Assumes nothing.
-use borrow.Author.Rules.{rules}
 use native.Mathlib.Omega.{arith}
 use Rattle.sets_256.specs.Held.{set256}
 use Rattle.sets.proofs.Written.{words, count_words}

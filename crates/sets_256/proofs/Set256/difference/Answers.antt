@@ -1,6 +1,5 @@
 -- `Set256::difference` meets its contract, by `without_words` at four words.
 -- Assumes nothing.
-use borrow.Author.Rules.{rules}
 use Rattle.sets_256.specs.Held.{set256}
 use Rattle.sets.proofs.Written.{words, without_words}
 use Rattle.sets_256.proofs.Set256.difference.Goals as goal

@@ -1,6 +1,5 @@
 -- `Set256::equals` meets its contract, by `equal_words` at four words.
 -- Assumes nothing.
-use borrow.Author.Rules.{rules}
 use Rattle.sets_256.specs.Held.{set256}
 use Rattle.sets.proofs.Written.{words, equal_words}
 use Rattle.sets_256.proofs.Set256.equals.Goals as goal

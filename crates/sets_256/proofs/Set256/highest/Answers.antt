@@ -1,6 +1,5 @@
 -- `Set256::highest` meets its contract, by `highest_words` at four words.
 -- Assumes nothing.
-use borrow.Author.Rules.{rules}
 use Rattle.sets_256.specs.Held.{set256}
 use Rattle.sets.proofs.Written.{words, highest_words}
 use Rattle.sets_256.proofs.Set256.highest.Goals as goal

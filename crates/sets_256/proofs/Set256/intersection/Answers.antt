@@ -1,6 +1,5 @@
 -- `Set256::intersection` meets its contract, by `and_words` at four words.
 -- Assumes nothing.
-use borrow.Author.Rules.{rules}
 use Rattle.sets_256.specs.Held.{set256}
 use Rattle.sets.proofs.Written.{words, and_words}
 use Rattle.sets_256.proofs.Set256.intersection.Goals as goal

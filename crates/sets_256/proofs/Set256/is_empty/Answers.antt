@@ -1,6 +1,5 @@
 -- `Set256::is_empty` meets its contract, by `empty_words` at four words.
 -- Assumes nothing.
-use borrow.Author.Rules.{rules}
 use Rattle.sets_256.specs.Held.{set256}
 use Rattle.sets.proofs.Written.{words, empty_words}
 use Rattle.sets_256.proofs.Set256.is_empty.Goals as goal

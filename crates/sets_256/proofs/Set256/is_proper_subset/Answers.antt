@@ -1,6 +1,5 @@
 -- `Set256::is_proper_subset` meets its contract, by `proper_test`.
 -- Assumes nothing.
-use borrow.Author.Rules.{rules}
 use Rattle.sets.proofs.Written.{proper_test}
 use Rattle.sets_256.proofs.Set256.is_proper_subset.Goals as goal
 

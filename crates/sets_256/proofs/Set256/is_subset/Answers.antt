@@ -1,6 +1,5 @@
 -- `Set256::is_subset` meets its contract, by `subset_test`.
 -- Assumes nothing.
-use borrow.Author.Rules.{rules}
 use Rattle.sets.proofs.Written.{subset_test}
 use Rattle.sets_256.proofs.Set256.is_subset.Goals as goal
 

@@ -1,6 +1,5 @@
 -- `Set256::less` meets its contract, by `less_words` at four words.
 -- Assumes nothing.
-use borrow.Author.Rules.{rules}
 use Rattle.sets_256.specs.Held.{set256}
 use Rattle.sets.proofs.Written.{words, less_words}
 use Rattle.sets_256.proofs.Set256.less.Goals as goal

@@ -1,6 +1,5 @@
 -- `Set256::lowest` meets its contract, by `lowest_words` at four words.
 -- Assumes nothing.
-use borrow.Author.Rules.{rules}
 use Rattle.sets_256.specs.Held.{set256}
 use Rattle.sets.proofs.Written.{words, lowest_words}
 use Rattle.sets_256.proofs.Set256.lowest.Goals as goal

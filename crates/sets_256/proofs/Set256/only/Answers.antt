@@ -1,6 +1,5 @@
 -- `Set256::only` meets its contract, by `only_words` at four words.
 -- Assumes nothing.
-use borrow.Author.Rules.{rules}
 use Rattle.sets_256.specs.Held.{set256}
 use Rattle.sets.proofs.Written.{only_words}
 use Rattle.sets_256.proofs.Set256.only.Goals as goal

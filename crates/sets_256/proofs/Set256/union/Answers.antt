@@ -1,6 +1,5 @@
 -- `Set256::union` meets its contract, by `or_words` at four words.
 -- Assumes nothing.
-use borrow.Author.Rules.{rules}
 use Rattle.sets_256.specs.Held.{set256}
 use Rattle.sets.proofs.Written.{words, or_words}
 use Rattle.sets_256.proofs.Set256.union.Goals as goal

@@ -1,6 +1,5 @@
 -- `Set256::word` meets its contract, by `word_in` and `word_past` at four words.
 -- Assumes nothing.
-use borrow.Author.Rules.{rules}
 use Rattle.sets_256.specs.Held.{set256}
 use Rattle.sets.proofs.Written.{words, word_in, word_past}
 use Rattle.sets_256.proofs.Set256.word.Goals as goal

@@ -1,12 +1,8 @@
 -- The place of x lies between low and high.
 -- Assumes nothing.
 use mathlib.Core.Path.{sym, ◌∙◌}
-use Prim.Native.Nat.{◌-◌}
 use native.Mathlib.Omega.{arith}
-use borrow.Author.Rules.{rules}
-use Rattle.sets_256.specs.Held.{set256}
-use Rattle.model.specs.Lists.{rows_at}
-use Rattle.tables.proofs.Halving.{Halved, halved_none, halved_all, found_there, halved_up, halved_down}
+use Rattle.tables.proofs.Halving.{halved_none, halved_all, found_there, halved_up, halved_down}
 use Rattle.tables.proofs.growing.search.Goals as goal
 
 pub loop-low-init : goal.loop-low-init

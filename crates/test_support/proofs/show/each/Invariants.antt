@@ -1,6 +1,5 @@
 -- The place is within the numbers.
 -- Assumes nothing.
-use borrow.Author.Rules.{rules}
 use Prim.Native.Nat.{◌-◌, ◌≤◌}
 use lib.ListN.{length}
 use Rattle.test_support.proofs.show.each.Given as goal

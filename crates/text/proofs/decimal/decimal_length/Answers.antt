@@ -1,10 +1,7 @@
 -- The digits counted and those still above them are one more than v has.
 -- Assumes nothing.
-use mathlib.Core.Path.{◌≡◌, refl}
-use Prim.Native.Nat.{◌+◌, ◌≤◌}
+use mathlib.Core.Path.{refl}
 use native.Mathlib.Omega.{arith}
-use lib.ListN.{length}
-use Rattle.text.specs.Decimal.{decimal}
 use Rattle.text.proofs.Decimals.{length_short, length_long, length-decimal}
 use Rattle.text.proofs.decimal.decimal_length.Goals as goal
 

@@ -1,11 +1,9 @@
 -- The digits counted and those still above them are one more than v has.
 -- Assumes nothing.
-use mathlib.Core.Path.{◌≡◌, refl}
+use mathlib.Core.Path.{◌≡◌}
 use Prim.Native.Nat.{◌+◌, ◌≤◌}
-use native.Mathlib.Omega.{arith}
 use lib.ListN.{length}
 use Rattle.text.specs.Decimal.{decimal}
-use Rattle.text.proofs.Decimals.{length_short, length_long, length-decimal}
 use Rattle.text.proofs.decimal.decimal_length.Given as goal
 
 abbrev pub invariant-loop-above : goal.invariant-loop-above

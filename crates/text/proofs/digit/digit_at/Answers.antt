@@ -3,7 +3,6 @@
 use Rattle.text.proofs.Digits.{digit_le, digit_past}
 use Rattle.text.specs.Digits.{digit_at}
 use mathlib.Core.Path.{sym}
-use borrow.Author.Rules.{rules}
 use native.Mathlib.Omega.{arith}
 use Rattle.text.proofs.digit.digit_at.Goals as goal
 

@@ -1,7 +1,6 @@
 -- Digits below 10, and letters.
 -- Assumes nothing.
 use Rattle.text.proofs.Digits.{byte_decimal, byte_letter}
-use borrow.Author.Rules.{rules}
 use native.Mathlib.Omega.{arith}
 use Rattle.text.proofs.digit.digit_byte.Goals as goal
 

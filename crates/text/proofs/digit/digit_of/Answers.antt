@@ -2,7 +2,6 @@
 -- Assumes nothing.
 use Rattle.text.proofs.Digits.{digit_low, digit_decimal, digit_between, digit_letter, digit_high}
 use mathlib.Core.Path.{sym}
-use borrow.Author.Rules.{rules}
 use native.Mathlib.Omega.{arith}
 use Rattle.text.proofs.digit.digit_of.Goals as goal
 

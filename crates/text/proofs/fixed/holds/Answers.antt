@@ -1,14 +1,9 @@
 -- All bytes before place i agree.
 -- Assumes nothing.
 use Rattle.text.proofs.Bytes.{holds_short, holds_differs, holds_through}
-use Prim.Native.Nat.{◌+◌, ◌-◌, ◌≤◌}
-use mathlib.Core.Bool.{So}
-use lib.Dec.{eqb}
-use lib.ListN.{length, get_or}
-use Rattle.sets.specs.Truth.{all}
+use Prim.Native.Nat.{◌-◌}
 use Rattle.sets.proofs.Truth.{all_none, all_more, eqb_iff}
 use mathlib.Core.Path.{sym}
-use borrow.Author.Rules.{rules}
 use native.Mathlib.Omega.{arith}
 use Rattle.text.proofs.fixed.holds.Goals as goal
 

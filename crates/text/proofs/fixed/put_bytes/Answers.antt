@@ -2,10 +2,9 @@
 -- Assumes nothing.
 use Rattle.stores.proofs.Stores.{put_at-take, put_at_taken}
 use Rattle.stores.specs.Stores.{put_at}
-use Prim.Native.Nat.{◌-◌, ◌≤◌}
-use lib.ListN.{length, take, length-set}
-use mathlib.Core.Path.{◌≡◌, refl}
-use borrow.Author.Rules.{rules}
+use Prim.Native.Nat.{◌-◌}
+use lib.ListN.{length-set}
+use mathlib.Core.Path.{refl}
 use native.Mathlib.Omega.{arith}
 use Rattle.text.proofs.fixed.put_bytes.Goals as goal
 

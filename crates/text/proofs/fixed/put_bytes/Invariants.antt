@@ -1,12 +1,9 @@
 -- The list so far is the one lent with the first i bytes put in.
 -- Assumes nothing.
-use Rattle.stores.proofs.Stores.{put_at-take, put_at_taken}
 use Rattle.stores.specs.Stores.{put_at}
 use Prim.Native.Nat.{◌-◌, ◌≤◌}
-use lib.ListN.{length, take, length-set}
-use mathlib.Core.Path.{◌≡◌, refl}
-use borrow.Author.Rules.{rules}
-use native.Mathlib.Omega.{arith}
+use lib.ListN.{length, take}
+use mathlib.Core.Path.{◌≡◌}
 use Rattle.text.proofs.fixed.put_bytes.Given as goal
 
 abbrev pub invariant-loop-i : goal.invariant-loop-i

@@ -1,6 +1,5 @@
 -- The field ends after its bytes where the text holds them.
 -- Assumes nothing.
-use borrow.Author.Rules.{rules}
 use mathlib.Core.Path.{sym, ◌∙◌}
 use native.Mathlib.Omega.{arith}
 use Rattle.text.specs.Fixed.{fixed_at}

@@ -1,6 +1,5 @@
 -- The end of a line is one fixed byte.
 -- Assumes nothing.
-use borrow.Author.Rules.{rules}
 use Rattle.text.specs.Fixed.{line_end_at}
 use Rattle.text.proofs.fixed.read_line_end.Goals as goal
 

@@ -1,6 +1,5 @@
 -- The line's parts, one after another.
 -- Assumes nothing.
-use borrow.Author.Rules.{rules}
 use native.Mathlib.Omega.{arith}
 use Rattle.text.proofs.Puts.{first-line}
 use Rattle.text.proofs.line.put_first_line.Goals as goal

@@ -1,6 +1,5 @@
 -- The definition, as the code computes it.
 -- Assumes nothing.
-use borrow.Author.Rules.{rules}
 use native.Mathlib.Omega.{arith}
 use Rattle.text_lines.proofs.Lengths.{digits_are}
 use Rattle.text_lines.proofs.digits.digits_for.Goals as goal

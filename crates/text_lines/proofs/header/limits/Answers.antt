@@ -1,6 +1,5 @@
 -- A limit broken, or all kept.
 -- Assumes nothing.
-use borrow.Author.Rules.{rules}
 use Rattle.sets.proofs.Telling.{as_told}
 use Rattle.text_lines.proofs.Lines.{limits_broken, limits_kept_lem}
 use Rattle.text_lines.proofs.header.limits.Goals as goal

@@ -1,6 +1,5 @@
 -- Each return is one way through `header_at`.
 -- Assumes nothing.
-use borrow.Author.Rules.{rules}
 use mathlib.Core.List.{List}
 use Prim.Native.Nat.{ℕ}
 use Rattle.text_lines.proofs.Lines.{WordRead, UsersRead, CommaRead, BothRead, no_word, word_read, no_users, users_read, no_comma, comma_read, no_permissions, both_read, no_line_end, line_read}

@@ -1,6 +1,5 @@
 -- Each return is one way through `row_digits_at`.
 -- Assumes nothing.
-use borrow.Author.Rules.{rules}
 use mathlib.Core.Path.{◌≡◌, sym, ◌∙◌}
 use Rattle.text.specs.declared.decimal.Decimal.TheVariants.{Number}
 use Rattle.text.specs.Decimal.{decimal_at}

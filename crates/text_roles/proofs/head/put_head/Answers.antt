@@ -1,6 +1,5 @@
 -- The first line, and that it is short.
 -- Assumes nothing.
-use borrow.Author.Rules.{rules}
 use native.Mathlib.Omega.{arith}
 use Rattle.text.proofs.Decimals.{length-decimal}
 use Rattle.text_roles.proofs.Puts.{head_put}

@@ -1,6 +1,5 @@
 -- The refusal's parts, one after another.
 -- Assumes nothing.
-use borrow.Author.Rules.{rules}
 use native.Mathlib.Omega.{arith}
 use Rattle.text_roles.proofs.Puts.{refused_put}
 use Rattle.text_roles.proofs.head.put_refusal.Goals as goal

@@ -1,6 +1,5 @@
 -- The fields of a line, one after another.
 -- Assumes nothing.
-use borrow.Author.Rules.{rules}
 use native.Mathlib.Omega.{arith}
 use Rattle.text_roles.proofs.Puts.{sized_put, line_put}
 use Rattle.text_roles.proofs.lines.put_line.Goals as goal

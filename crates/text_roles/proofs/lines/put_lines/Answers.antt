@@ -1,12 +1,9 @@
 -- The lines of the roles below k are written.
 -- Assumes nothing.
-use borrow.Author.Rules.{rules}
 use mathlib.Core.Path.{◌≡◌, refl}
-use Prim.Native.Nat.{◌-◌, ◌≤◌}
+use Prim.Native.Nat.{◌-◌}
 use native.Mathlib.Omega.{arith}
-use lib.ListN.{length, get_or}
-use Rattle.text_roles.specs.Words.{words_lines}
-use Rattle.text.proofs.Puts.{Put}
+use lib.ListN.{get_or}
 use Rattle.text_roles.proofs.Puts.{lines_none, lines_more, lines_most, put_upto}
 use Rattle.text_roles.proofs.lines.put_lines.Goals as goal
 

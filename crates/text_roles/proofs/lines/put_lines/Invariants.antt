@@ -1,13 +1,10 @@
 -- The lines of the roles below k are written.
 -- Assumes nothing.
-use borrow.Author.Rules.{rules}
-use mathlib.Core.Path.{◌≡◌, refl}
+use mathlib.Core.Path.{◌≡◌}
 use Prim.Native.Nat.{◌-◌, ◌≤◌}
-use native.Mathlib.Omega.{arith}
-use lib.ListN.{length, get_or}
+use lib.ListN.{length}
 use Rattle.text_roles.specs.Words.{words_lines}
 use Rattle.text.proofs.Puts.{Put}
-use Rattle.text_roles.proofs.Puts.{lines_none, lines_more, lines_most, put_upto}
 use Rattle.text_roles.proofs.lines.put_lines.Given as goal
 
 abbrev pub invariant-loop-k : goal.invariant-loop-k

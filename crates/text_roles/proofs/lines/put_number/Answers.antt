@@ -1,6 +1,5 @@
 -- A decimal of 64 bits has at most 20 digits.
 -- Assumes nothing.
-use borrow.Author.Rules.{rules}
 use native.Mathlib.Omega.{arith}
 use Rattle.text.proofs.Decimals.{length-decimal}
 use Rattle.text_roles.proofs.lines.put_number.Goals as goal

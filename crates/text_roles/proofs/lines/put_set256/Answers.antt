@@ -1,6 +1,5 @@
 -- A comma and the digits.
 -- Assumes nothing.
-use borrow.Author.Rules.{rules}
 use native.Mathlib.Omega.{arith}
 use Rattle.text_lines.proofs.Lengths.{digits_most}
 use Rattle.text_roles.proofs.Puts.{field_put}

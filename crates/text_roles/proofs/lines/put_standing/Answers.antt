@@ -1,6 +1,5 @@
 -- The line of a role that stands, and nothing else.
 -- Assumes nothing.
-use borrow.Author.Rules.{rules}
 use Rattle.sets.proofs.Telling.{as_told}
 use mathlib.Core.Path.{◌∙◌, ap}
 use Rattle.sets.specs.Sets.{has}

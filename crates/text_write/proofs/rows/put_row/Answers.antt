@@ -1,6 +1,5 @@
 -- The row's parts, one after another.
 -- Assumes nothing.
-use borrow.Author.Rules.{rules}
 use Rattle.text_write.proofs.Puts.{row_put}
 use Rattle.text_write.proofs.rows.put_row.Goals as goal
 

@@ -1,16 +1,12 @@
 -- The lines of the users below u are written.
 -- Assumes nothing.
-use borrow.Author.Rules.{rules}
-use mathlib.Core.Path.{◌≡◌, refl}
-use Prim.Native.Nat.{suc, ◌-◌, ◌≤◌}
-use native.Mathlib.Omega.{arith}
+use mathlib.Core.Path.{◌≡◌}
+use Prim.Native.Nat.{◌-◌, ◌≤◌}
 use lib.ListN.{length}
 use Rattle.model.specs.Lists.{rows_at}
 use Rattle.model.specs.Record.{crew_start}
 use Rattle.text.proofs.Puts.{Put}
 use Rattle.text_lines.specs.Format.{row_lines}
-use Rattle.text_lines.proofs.Lengths.{length-rows_more, length-rows_fewer}
-use Rattle.text_write.proofs.Puts.{rows_none, rows_more, rows_put}
 use Rattle.text_write.proofs.rows.put_rows.Given as goal
 
 abbrev pub invariant-loop-u : goal.invariant-loop-u
