@@ -14,12 +14,12 @@ PKGCONFIG = install pkg-config
 prove = { { (cd crates/$(1) && $(2)); echo $$? > target/$(1).status; } 2>&1 | tee target/$(1).log \
 	| awk -f tools/progress.awk -v program=$(1) crates.txt - >&2; test "$$(cat target/$(1).status)" = 0; }
 
-# prove the panel and build the archive of its calls for C
+# prove the panel and build the archive of its calls for C, for every x86-64
 LIBRARY = crates/panel_c/out/libpanel_c.a
 define archive
 @mkdir -p target
 @echo "proving and building the panel (some minutes the first time; log: target/panel_c.log)" >&2
-@$(call prove,panel_c,rt lib) || { echo "make $@: the panel could not be proved or built: see target/panel_c.log" >&2; exit 1; }
+@$(call prove,panel_c,rt lib --cpu=x86-64) || { echo "make $@: the panel could not be proved or built: see target/panel_c.log" >&2; exit 1; }
 endef
 HOST = --offline --quiet --manifest-path host/Cargo.toml
 
