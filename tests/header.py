@@ -33,7 +33,7 @@ CONSTANTS = {"PANEL_RECORD_WORDS": (LAYOUT, "LENGTH"), "PANEL_AT_STANDING": (LAY
 
 # where no constant of the code has a name for it, the definition gives it: acceptance, and the words before the sets
 CLAIM, RECORD = "crates/model/specs/Claim.antt", "crates/model/specs/Record.antt"
-NUMBERS = {"PANEL_AT_N": "st .users", "PANEL_AT_M": "st .permissions", "PANEL_AT_C": "candidateCount (rolesOf st)"}
+NUMBERS = {"PANEL_AT_N": "st.users", "PANEL_AT_M": "st.permissions", "PANEL_AT_C": "candidate_count (roles_of st)"}
 
 # who else says the version
 CHANGES, INSTALLED = "CHANGELOG.md", "rolepanel.pc.in"
@@ -84,12 +84,12 @@ def exported(sources):
     calls, structs = {}, {}
     for source in sources:
         text = re.sub(r"//[^\n]*", "", source.read_text(encoding="utf-8"))
-        for name, body in re.findall(r"#\[repr\(C\)\]\s*pub struct (\w+)\s*{(.*?)}", text, re.S):
+        for name, body in re.findall(r"#\[repr\(C\)\](?:\s*#\[derive\([^\n]*\)\])?\s*pub struct (\w+)\s*{(.*?)}", text, re.S):
             structs[c_name(name)] = [(NUMBER[kind][0], field.removeprefix("pub").strip()) for field, kind in pairs(body)]
         for name, body, answer in re.findall(
-                r"#\[no_mangle\]\s*pub extern \"C\" fn (\w+)\s*\((.*?)\)\s*->\s*(\w+)", text, re.S):
+                r"#\[unsafe\(no_mangle\)\]\s*pub extern \"C\" fn (\w+)\s*\((.*?)\)\s*->\s*(\w+)", text, re.S):
             calls[name] = (c_name(answer), parameters(body))
-        if text.count("#[no_mangle]") != sum(name in calls for name in re.findall(r"extern \"C\" fn (\w+)", text)):
+        if text.count("no_mangle") != sum(name in calls for name in re.findall(r"extern \"C\" fn (\w+)", text)):
             sys.exit("tests/header.py: an exported call in %s is not understood" % source.relative_to(ROOT))
     answers = {answer for answer, _ in calls.values()}
     return calls, {name: fields for name, fields in structs.items() if name in answers}
@@ -110,9 +110,9 @@ def sourced():
     for constant, value in re.findall(r"const (\w+): u64 = (\d+);", (ROOT / REFUSALS).read_text(encoding="utf-8")):
         yield "PANEL_" + constant, value, "%s of %s" % (constant, REFUSALS)
     yield "PANEL_ACCEPTED", first(r"Accepted ws call = .* ≡ (\d+)\n", CLAIM), "Accepted of " + CLAIM
-    words = [word.strip() for word in first(r"headerWord st i =\s+getD\s+\((.*)\)\s+i 0\n", RECORD).split("∷")]
+    words = [word.strip() for word in first(r"header_word st i =\s+get_or\s+\((.*)\)\s+i 0\n", RECORD).split("∷")]
     for name, word in NUMBERS.items():
-        yield name, str(words.index(word)) if word in words else "nowhere", "headerWord of " + RECORD
+        yield name, str(words.index(word)) if word in words else "nowhere", "header_word of " + RECORD
     newest = first(r"(?m)^## (\d+\.\d+\.\d+)$", CHANGES)
     for part, number in zip(("MAJOR", "MINOR", "PATCH"), newest.split(".")):
         yield "PANEL_VERSION_" + part, number, "the newest entry of " + CHANGES
@@ -223,7 +223,7 @@ def main():
     for compiler, _, remedy in COMPILERS:
         if shutil.which(compiler) is None:
             sys.exit("tests/header.py: %s is missing: %s" % (compiler, remedy))
-    sources = [source for name in ("panel", "call_*", "text_crew") for source in sorted((ROOT / "crates").glob(name + "/src/*.rt"))]
+    sources = [source for name in ("panel_c", "call_*", "text_crew") for source in sorted((ROOT / "crates").glob(name + "/src/*.rt"))]
     crate = exported(sources)
     *header, constants, rest = declared()
     faults = list(differences(crate, header))

@@ -332,7 +332,7 @@ def proved_listings():
     check("two listings are proved", len(names), 2)
     for text, printed in names:
         check("proved listing of " + text, M.lister(lists[text]), lists[printed])
-    code, n, m, words = M.read_crew(lists["digitsText"], [0] * M.BUFFER)
+    code, n, m, words = M.read_crew(lists["digits_text"], [0] * M.BUFFER)
     code, c, record = M.mine(n, m, words[:4 * n], EMPTY)
     check("three numbers of digits", [(count + 3) // 4 for count in (n, m, c)], [2, 3, 4])
     code, struck, _, record = M.eliminate(record, ONES, 1, 1)

@@ -2,7 +2,8 @@
 
 From the contracts of the exported functions and of `serve` it follows each name to its definition, and from there to
 the names that the definition cites, until all are found. The page has to list just these: the definitions by file, and
-the names of the toolchain's libraries that they rest on. `--write` puts the lists into the page.
+the names of the toolchain's libraries that they rest on. `--write` puts the lists into the page. Each exported function
+has the contract of `panel`'s function of its name, word for word.
 """
 import re
 import sys
@@ -10,9 +11,10 @@ from pathlib import Path
 
 ROOT = Path(__file__).resolve().parent.parent
 PAGE = ROOT / "docs" / "TRUST.md"
-SOURCES = ("crates/panel/src/exports.rt", "crates/panel/src/list.rt")
+SOURCES = ("crates/panel_c/src/lib.rt", "crates/panel/src/list.rt")
+BEHIND = "crates/panel/src/exports.rt"
 BEGIN, END = "<!-- from tests/trust.py: begin -->", "<!-- from tests/trust.py: end -->"
-TOKEN = re.compile(r"\[\]|[^\s(){}\[\],;⌜⌝]+")
+TOKEN = re.compile(r"\[\]|[^\s(){}\[\],;]+")
 
 
 class Unknown(Exception):
@@ -33,18 +35,18 @@ def imports(text):
 
 
 def words(text):
-    """The names that a text uses: what is quoted, commented or a field is none."""
+    """The names that a text uses: what is quoted, commented or a field is none. Of `x.f` it has `x` too, whose field f may be."""
     text = re.sub(r"(?m)--.*$|//.*$", "", text)
     found = set()
     for token in TOKEN.findall(text):
         if not token.startswith("."):
-            found.add(token.rstrip("."))
+            found |= {token.rstrip("."), token.split(".")[0]}
     return found
 
 
 def uses(name, found):
-    """Whether a name is among the words: of a name with places, as `_and_`, its first part."""
-    return name in found or ("_" in name and [part for part in name.split("_") if part][0] in found)
+    """Whether a name is among the words: of a name with places, as `◌and◌`, its first part."""
+    return name in found or ("◌" in name and [part for part in name.split("◌") if part][0] in found)
 
 
 class Module:
@@ -88,13 +90,13 @@ class Walk:
         raise Unknown("no struct or enum %s in the crate %s" % (name, crate))
 
     def follow(self, module, name):
-        own = re.fullmatch(r"Rattle·(\w+)(?:·specs)?\.specs\.(.+)", module)
-        if not own:
-            if module.startswith("Rattle·"):
-                raise Unknown("%s of %s is no definition: a promise must not rest on it" % (name, module))
+        root, crate, *path = module.split(".")
+        if root != "Rattle" or not (ROOT / "crates" / crate).is_dir():
             self.kit.setdefault(module, set()).add(name)
             return
-        crate, path = own[1], own[2].split(".")
+        if path[:1] != ["specs"] or len(path) < 2:
+            raise Unknown("%s of %s is no definition: a promise must not rest on it" % (name, module))
+        path = path[1:]
         if path[0] == "declared":
             self.struct(crate, next(part for part in path[1:] if part[0].isupper()))
             return
@@ -113,7 +115,7 @@ class Walk:
         if local:
             for name in list(module.found):
                 if uses(name, found) and name not in self.reached[module.path]:
-                    self.follow("Rattle·%s.specs.%s" % (module.path.parts[-3], module.path.stem), name)
+                    self.follow("Rattle.%s.specs.%s" % (module.path.parts[-3], module.path.stem), name)
         for name, source in module.names.items():
             if uses(name, found):
                 self.follow(source, name)
@@ -124,21 +126,23 @@ class Walk:
 
 
 def contracts(text):
-    """The contracts of the exported functions, and of `serve`."""
+    """The contracts of the public functions: those that are exported, and `serve`."""
     for match in re.finditer(r'(?m)^pub (?:extern "C" )?fn (\w+)', text):
         head = text[match.start():text.index("\n{", match.start())]
-        if 'extern "C"' in head or match[1] == "serve":
-            yield match[1], "\n".join(line for line in head.splitlines() if re.match(r"\s+(requires|ensures)", line))
+        yield match[1], "\n".join(line for line in head.splitlines() if re.match(r"\s+(requires|ensures)", line))
 
 
 def collect():
     walk, calls = Walk(), []
+    behind = dict(contracts((ROOT / BEHIND).read_text(encoding="utf-8")))
     for source in SOURCES:
         text = (ROOT / source).read_text(encoding="utf-8")
         used = imports(text)
         for name, contract in contracts(text):
             if "requires" in contract:
                 raise Unknown("%s has a requires" % name)
+            if name != "serve" and contract != behind.get(name):
+                raise Unknown("%s is exported with another contract than it has in %s" % (name, BEHIND))
             calls.append(name)
             found = words(contract)
             for cited, module in used[0].items():
@@ -149,7 +153,7 @@ def collect():
 
 def in_order(paths):
     """The files from the ground up: crates as crates.txt lists them, and a crate's files as its root does."""
-    crates = re.findall(r"(?m)^(\w+):", (ROOT / "crates.txt").read_text(encoding="utf-8"))
+    crates = re.findall(r"(?m)^(\w+)(?: staticlib)?:", (ROOT / "crates.txt").read_text(encoding="utf-8"))
 
     def place(path):
         listed = re.findall(r"(?m)^pub mod (\w+)", (path.parent / "Lib.antt").read_text(encoding="utf-8"))

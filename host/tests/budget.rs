@@ -8,7 +8,7 @@ use std::arch::asm;
 use std::collections::BTreeSet;
 use std::process::{exit, Command};
 
-const ARCHIVE: &str = concat!(env!("CARGO_MANIFEST_DIR"), "/../target/staticlib/libpanel.a");
+const ARCHIVE: &str = concat!(env!("CARGO_MANIFEST_DIR"), "/../crates/panel_c/out/libpanel_c.a");
 const HEADER: &str = include_str!("../../include/rolepanel.h");
 const ONES: [u64; 4] = [1; 4];
 

@@ -1,5 +1,5 @@
-// The outside calls, as they are exported. Each is the call of the same name in a crate of its own, with the same promise; and beside it the customer's
-// conditions 1 and 2, as far as they speak of the call.
+// The outside calls. Each is the call of the same name in a crate of its own, with the same promise; and beside it the customer's
+// conditions 1 and 2, as far as they speak of the call. The crate `panel_c` exports them to C.
 ghost use Rattle.std.specs.Prelude.{◌≡◌};
 ghost use Rattle.model.specs.Calls.{mine, edit, quality_of, may_of};
 ghost use Rattle.model.specs.Machine.Call.{strike, restore, eliminate, review};
@@ -28,32 +28,28 @@ use call_strike::StrikeAnswer;
 use call_write::CrewWritten;
 use text_crew::CrewRead;
 
-#[unsafe(no_mangle)]
-pub extern "C" fn panel_mine(n: u64, m: u64, crew: &[u64], rec: &mut [u64]) -> MineAnswer
+pub fn panel_mine(n: u64, m: u64, crew: &[u64], rec: &mut [u64]) -> MineAnswer
     ensures rec_after { mine_result result rec.new ≡ mine n m crew.now rec.old }
     ensures mining_conditions { MiningConditions n m crew.now rec.old (mine_result result rec.new) }
 {
     call_mine::panel_mine(n, m, crew, rec)
 }
 
-#[unsafe(no_mangle)]
-pub extern "C" fn panel_strike(rec: &mut [u64], k: u64) -> StrikeAnswer
+pub fn panel_strike(rec: &mut [u64], k: u64) -> StrikeAnswer
     ensures rec_after { strike_result result rec.new ≡ edit rec.old (strike k) }
     ensures strike_conditions { StrikeConditions rec.old k (strike_result result rec.new) }
 {
     call_strike::panel_strike(rec, k)
 }
 
-#[unsafe(no_mangle)]
-pub extern "C" fn panel_restore(rec: &mut [u64], k: u64) -> RestoreAnswer
+pub fn panel_restore(rec: &mut [u64], k: u64) -> RestoreAnswer
     ensures rec_after { restore_result result rec.new ≡ edit rec.old (restore k) }
     ensures restore_conditions { RestoreConditions rec.old k (restore_result result rec.new) }
 {
     call_restore::panel_restore(rec, k)
 }
 
-#[unsafe(no_mangle)]
-pub extern "C" fn panel_eliminate(
+pub fn panel_eliminate(
     rec: &mut [u64],
     w1: u64,
     w2: u64,
@@ -68,40 +64,35 @@ pub extern "C" fn panel_eliminate(
     call_eliminate::panel_eliminate(rec, w1, w2, w3, w4, a, b)
 }
 
-#[unsafe(no_mangle)]
-pub extern "C" fn panel_review(rec: &mut [u64], w1: u64, w2: u64, w3: u64, w4: u64) -> ReviewAnswer
+pub fn panel_review(rec: &mut [u64], w1: u64, w2: u64, w3: u64, w4: u64) -> ReviewAnswer
     ensures rec_after { review_result result rec.new ≡ edit rec.old (review (weights_of w1 w2 w3 w4)) }
     ensures review_conditions { ReviewConditions rec.old (weights_of w1 w2 w3 w4) (review_result result rec.new) }
 {
     call_review::panel_review(rec, w1, w2, w3, w4)
 }
 
-#[unsafe(no_mangle)]
-pub extern "C" fn panel_quality(rec: &[u64], w1: u64, w2: u64, w3: u64, w4: u64) -> QualityAnswer
+pub fn panel_quality(rec: &[u64], w1: u64, w2: u64, w3: u64, w4: u64) -> QualityAnswer
     ensures result_value { quality_result result ≡ quality_of rec.now (weights_of w1 w2 w3 w4) }
     ensures quality_conditions { QualityConditions rec.now (weights_of w1 w2 w3 w4) (quality_result result) }
 {
     call_quality::panel_quality(rec, w1, w2, w3, w4)
 }
 
-#[unsafe(no_mangle)]
-pub extern "C" fn panel_may(rec: &[u64], u: u64, p: u64) -> MayAnswer
+pub fn panel_may(rec: &[u64], u: u64, p: u64) -> MayAnswer
     ensures result_value { may_result result ≡ may_of rec.now u p }
     ensures may_conditions { MayConditions rec.now u p (may_result result) }
 {
     call_may::panel_may(rec, u, p)
 }
 
-#[unsafe(no_mangle)]
-pub extern "C" fn panel_read_crew(text: &[u8], rows: &mut [u64]) -> CrewRead
+pub fn panel_read_crew(text: &[u8], rows: &mut [u64]) -> CrewRead
     ensures rows_after { read_result result rows.new ≡ read_crew text.now rows.old }
     ensures read_conditions { ReadConditions text.now rows.old (read_result result rows.new) }
 {
     text_crew::read_crew(text, rows)
 }
 
-#[unsafe(no_mangle)]
-pub extern "C" fn panel_write_crew(rec: &[u64], text: &mut [u8]) -> CrewWritten
+pub fn panel_write_crew(rec: &[u64], text: &mut [u8]) -> CrewWritten
     ensures text_after { write_result result text.new ≡ write_crew rec.now text.old }
     ensures write_conditions { WriteConditions rec.now text.old (write_result result text.new) }
 {

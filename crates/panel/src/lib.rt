@@ -1,4 +1,4 @@
-// The outside calls, exported; and a list of them served one after the other, which is what condition 3 speaks of.
+// The outside calls; and a list of them served one after the other, which is what condition 3 speaks of.
 #![tactic(auto)]
 
 mod exports;
