@@ -1,6 +1,5 @@
 -- An item of the difference is not in the set that was taken out.
 -- Assumes nothing.
-use borrow.Author.Rules.{rules}
 use Rattle.sets.proofs.Truth.{eqb_iff}
 use Rattle.sets.proofs.Order.{∖-iff, disjoint_iff}
 use Rattle.test_sets.proofs.apart.Goals as goal

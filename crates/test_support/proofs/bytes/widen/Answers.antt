@@ -1,10 +1,8 @@
 -- The first i words are the first i bytes.
 -- Assumes nothing.
-use borrow.Author.Rules.{rules}
-use mathlib.Core.Path.{◌≡◌, refl, sym}
-use Prim.Native.Nat.{◌-◌, ◌≤◌}
+use mathlib.Core.Path.{refl, sym}
 use native.Mathlib.Omega.{arith}
-use lib.ListN.{length, take, length-set}
+use lib.ListN.{length-set}
 use Rattle.test_support.proofs.Widening.{one_more, all_there}
 use Rattle.test_support.proofs.bytes.widen.Goals as goal
 

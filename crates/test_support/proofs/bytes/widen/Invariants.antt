@@ -1,11 +1,8 @@
 -- The first i words are the first i bytes.
 -- Assumes nothing.
-use borrow.Author.Rules.{rules}
-use mathlib.Core.Path.{◌≡◌, refl, sym}
+use mathlib.Core.Path.{◌≡◌}
 use Prim.Native.Nat.{◌-◌, ◌≤◌}
-use native.Mathlib.Omega.{arith}
-use lib.ListN.{length, take, length-set}
-use Rattle.test_support.proofs.Widening.{one_more, all_there}
+use lib.ListN.{length, take}
 use Rattle.test_support.proofs.bytes.widen.Given as goal
 
 abbrev pub invariant-loop-i : goal.invariant-loop-i

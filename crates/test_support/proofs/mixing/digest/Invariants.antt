@@ -1,12 +1,9 @@
 -- What the words that are left add to d is the whole digest.
 -- Assumes nothing.
-use borrow.Author.Rules.{rules}
-use mathlib.Core.Path.{◌≡◌, sym, ◌∙◌}
+use mathlib.Core.Path.{◌≡◌}
 use Prim.Native.Nat.{◌-◌, ◌≤◌}
-use native.Mathlib.Omega.{arith}
 use lib.ListN.{length, drop}
 use Rattle.test_support.specs.Digest.{digest_from, digest_of}
-use Rattle.test_support.proofs.Digesting.{all_left, one_less, none_left}
 use Rattle.test_support.proofs.mixing.digest.Given as goal
 
 abbrev pub invariant-loop-i : goal.invariant-loop-i
