@@ -1,8 +1,8 @@
 // A crew text from standard input, handed back on standard output through the reader, mining and the writer; or the refusal.
 #![tactic(auto)]
 
-use libc::{STDIN_FILENO, STDOUT_FILENO};
+use std::io;
 
-fn main() {
-    round_trip::hand_back_stream(STDIN_FILENO, STDOUT_FILENO);
+fn main(rt: HostRuntime) -> io::Result<()> {
+    round_trip::hand_back_stream(&mut rt.stdin(), &mut rt.stdout())
 }

@@ -1,8 +1,8 @@
 // The role lister: the roles of the crew text on standard input, on standard output.
 #![tactic(auto)]
 
-use libc::{STDIN_FILENO, STDOUT_FILENO};
+use std::io;
 
-fn main() {
-    listing::list_stream(STDIN_FILENO, STDOUT_FILENO);
+fn main(rt: HostRuntime) -> io::Result<()> {
+    listing::list_stream(&mut rt.stdin(), &mut rt.stdout())
 }

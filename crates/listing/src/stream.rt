@@ -1,9 +1,14 @@
-// The lister's body: a text read from one descriptor, its listing written to another.
-ghost use Rattle.std.specs.Prelude.{◌≡◌, List, ℕ, ◌<◌, ◌≤◌, length, take};
+// The lister's body: a text that is read, and its listing, which is written.
+ghost use Rattle.std.specs.Prelude.{◌≡◌, List, ℕ, ◌<◌, ◌≤◌, length, take, IfSome, OnOk};
+ghost use Rattle.std.specs.Io.KnownBytes.{Appends};
 ghost use Rattle.text_crew.specs.Reader.{longest_text};
+ghost use Rattle.listing.specs.Listing.{listing};
 ghost use Rattle.listing.specs.Stream.{ListingPut};
 
 use crate::{MOST, list_roles};
+use std::io;
+use std::io::{Read, Write};
+use streams::read_full;
 
 // A byte more than the longest crew text, so that a longer one is noticed.
 const SPACE: usize = 16385;
@@ -18,10 +23,13 @@ fn list_read(input: &[u8], n: usize, out: &mut [u8; MOST]) -> usize
     list_roles(&input[..n], out)
 }
 
-pub fn list_stream(from: i32, to: i32) {
+// Where the bytes to be read are known, what is written is their listing.
+pub fn list_stream<R: Read, W: Write>(from: &mut R, to: &mut W) -> io::Result<()>
+    ensures { OnOk result (IfSome (R.remaining from.old) (λ text. Appends (W.contents to.old) (W.contents to.new) (listing text))) }
+{
     let mut input = [0u8; SPACE];
     let mut out = [0u8; MOST];
-    let n = io::read_full(from, &mut input);
+    let n = read_full(from, &mut input)?;
     let end = list_read(&input, n, &mut out);
-    io::write_all(to, &out[..end]);
+    to.write_all(&out[..end])
 }

@@ -1,9 +1,13 @@
-// The body of `handback`: a text read from one descriptor, what comes back of it written to another.
-ghost use Rattle.std.specs.Prelude.{◌≡◌, List, ℕ, ◌<◌, ◌≤◌, length, take};
+// The body of `handback`: a text that is read, and what comes back of it, which is written.
+ghost use Rattle.std.specs.Prelude.{◌≡◌, List, ℕ, ◌<◌, ◌≤◌, length, take, IfSome, OnOk};
+ghost use Rattle.std.specs.Io.KnownBytes.{Appends};
 ghost use Rattle.text_crew.specs.Reader.{longest_text};
-ghost use Rattle.round_trip.specs.HandBack.{BackPut};
+ghost use Rattle.round_trip.specs.HandBack.{BackPut, handed_back};
 
 use crate::hand_back;
+use std::io;
+use std::io::{Read, Write};
+use streams::read_full;
 use text_crew::SPACE;
 use text_write::LONGEST_WRITTEN;
 
@@ -17,10 +21,13 @@ fn hand_read(input: &[u8], n: usize, out: &mut [u8; LONGEST_WRITTEN]) -> usize
     hand_back(&input[..n], out)
 }
 
-pub fn hand_back_stream(from: i32, to: i32) {
+// Where the bytes to be read are known, what is written is what comes back of them.
+pub fn hand_back_stream<R: Read, W: Write>(from: &mut R, to: &mut W) -> io::Result<()>
+    ensures { OnOk result (IfSome (R.remaining from.old) (λ text. Appends (W.contents to.old) (W.contents to.new) (handed_back text))) }
+{
     let mut input = [0u8; SPACE];
     let mut out = [0u8; LONGEST_WRITTEN];
-    let n = io::read_full(from, &mut input);
+    let n = read_full(from, &mut input)?;
     let end = hand_read(&input, n, &mut out);
-    io::write_all(to, &out[..end]);
+    to.write_all(&out[..end])
 }

@@ -1,56 +1,48 @@
-// The numbers of a script's line, read from standard input.
+// The numbers of a script's line.
 #![tactic(auto)]
 
-use libc::STDIN_FILENO;
+mod unread;
+
+use std::io::Read;
+use streams::read_full;
 use text::Field;
 use text_sets::{hexadecimal_set, read_hexadecimal};
-
-#[derive(Clone, Copy)]
-enum Number {
-    Is(u64),
-    Nothing,
-}
+pub use unread::Unread;
 
 // A blank and 16 digits.
-fn next_number() -> Number {
+fn next_number<R: Read>(from: &mut R) -> Result<u64, Unread> {
     let mut field = [0u8; 17];
-    if io::read_full(STDIN_FILENO, &mut field) != 17 {
-        return Number::Nothing;
+    if read_full(from, &mut field)? != 17 {
+        return Err(Unread::Line);
     }
     if field[0] != b' ' {
-        return Number::Nothing;
+        return Err(Unread::Line);
     }
     let Field::Ends(_) = read_hexadecimal(&field, 1, 16) else {
-        return Number::Nothing;
+        return Err(Unread::Line);
     };
-    Number::Is(hexadecimal_set(&field, 1, 16).word(0))
+    Ok(hexadecimal_set(&field, 1, 16).word(0))
 }
 
-// Fills the words with the numbers that come next, or answers false.
-pub fn numbers(words: &mut [u64]) -> bool {
-    let mut i = 0;
-    while i < words.len() {
-        let Number::Is(word) = next_number() else {
-            return false;
-        };
-        words[i] = word;
-        i += 1;
+// Fills the words with the numbers that come next.
+pub fn numbers<R: Read>(from: &mut R, words: &mut [u64]) -> Result<(), Unread> {
+    for word in words.iter_mut() {
+        *word = next_number(from)?;
     }
-    true
+    Ok(())
 }
 
-fn line_ends() -> bool {
+fn line_ends<R: Read>(from: &mut R) -> Result<(), Unread> {
     let mut end = [0u8; 1];
-    if io::read_full(STDIN_FILENO, &mut end) != 1 {
-        return false;
+    if read_full(from, &mut end)? == 1 && end[0] == b'\n' {
+        Ok(())
+    } else {
+        Err(Unread::Line)
     }
-    end[0] == b'\n'
 }
 
 // The last numbers of a line.
-pub fn last_numbers(words: &mut [u64]) -> bool {
-    if !numbers(words) {
-        return false;
-    }
-    line_ends()
+pub fn last_numbers<R: Read>(from: &mut R, words: &mut [u64]) -> Result<(), Unread> {
+    numbers(from, words)?;
+    line_ends(from)
 }

@@ -1,115 +1,118 @@
 // What alters no record: the calls that read one, the reader and the writer of a crew text, and titles.
 use crate::lent::{MOST_BYTES, MOST_WORDS, lent, lent_bytes, widened};
-use libc::STDIN_FILENO;
 use panel::{panel_may, panel_quality, panel_read_crew, panel_write_crew};
-use test_input::last_numbers;
+use std::io::{Read, Write};
+use streams::read_full;
+use test_input::{Unread, last_numbers};
 use test_support::{case, text, widen};
 
 const MOST_TEXT: usize = 4096;
 
-fn quality(rec: &[u64]) -> bool {
+fn quality<R: Read, W: Write>(from: &mut R, to: &mut W, rec: &[u64]) -> Result<(), Unread> {
     let mut w = [0u64; 4];
-    if !last_numbers(&mut w) {
-        return false;
-    }
+    last_numbers(from, &mut w)?;
     let a = panel_quality(rec, w[0], w[1], w[2], w[3]);
-    case(b"quality", &w, &[a.code, a.quality], rec);
-    true
+    case(to, b"quality", &w, &[a.code, a.quality], rec)?;
+    Ok(())
 }
 
-fn may(rec: &[u64]) -> bool {
+fn may<R: Read, W: Write>(from: &mut R, to: &mut W, rec: &[u64]) -> Result<(), Unread> {
     let mut w = [0u64; 2];
-    if !last_numbers(&mut w) {
-        return false;
-    }
+    last_numbers(from, &mut w)?;
     let a = panel_may(rec, w[0], w[1]);
-    case(b"may", &w, &[a.code, a.allowed], rec);
-    true
+    case(to, b"may", &w, &[a.code, a.allowed], rec)?;
+    Ok(())
 }
 
-fn read_bytes(crew: &mut [u8], words: &mut [u64]) -> bool {
-    if io::read_full(STDIN_FILENO, crew) != crew.len() {
-        return false;
+fn read_bytes<R: Read, W: Write>(
+    from: &mut R,
+    to: &mut W,
+    crew: &mut [u8],
+    words: &mut [u64],
+) -> Result<(), Unread> {
+    if read_full(from, crew)? != crew.len() {
+        return Err(Unread::Line);
     }
     let a = panel_read_crew(crew, words);
-    case(b"read", &[0u64; 0], &[a.code, a.n, a.m], words);
-    true
+    case(to, b"read", &[], &[a.code, a.n, a.m], words)?;
+    Ok(())
 }
 
-fn read() -> bool {
+fn read<R: Read, W: Write>(from: &mut R, to: &mut W) -> Result<(), Unread> {
     let mut head = [0u64; 2];
-    if !last_numbers(&mut head) {
-        return false;
-    }
+    last_numbers(from, &mut head)?;
     let size = head[0] as usize;
     let count = head[1] as usize;
-    if MOST_TEXT < size {
-        return false;
+    if MOST_TEXT < size || MOST_WORDS < count {
+        return Err(Unread::Line);
     }
-    if MOST_WORDS < count {
-        return false;
-    }
-    let mut space = io::buffer();
+    let mut space = [0u8; MOST_TEXT];
     let mut words = lent();
-    read_bytes(&mut space[..size], &mut words[..count])
+    read_bytes(from, to, &mut space[..size], &mut words[..count])
 }
 
 // A word is lent for each byte.
-fn write_bytes(rec: &[u64], crew: &mut [u8], words: &mut [u64]) -> bool {
+fn write_bytes<W: Write>(
+    to: &mut W,
+    rec: &[u64],
+    crew: &mut [u8],
+    words: &mut [u64],
+) -> Result<(), Unread> {
     if crew.len() != words.len() {
-        return false;
+        return Err(Unread::Line);
     }
     let a = panel_write_crew(rec, crew);
     widen(crew, words);
-    case(b"write", &[crew.len() as u64], &[a.code, a.length], words);
-    true
+    case(
+        to,
+        b"write",
+        &[crew.len() as u64],
+        &[a.code, a.length],
+        words,
+    )?;
+    Ok(())
 }
 
-fn write(rec: &[u64]) -> bool {
+fn write<R: Read, W: Write>(from: &mut R, to: &mut W, rec: &[u64]) -> Result<(), Unread> {
     let mut head = [0u64; 1];
-    if !last_numbers(&mut head) {
-        return false;
-    }
+    last_numbers(from, &mut head)?;
     let count = head[0] as usize;
     if MOST_BYTES < count {
-        return false;
+        return Err(Unread::Line);
     }
     let mut space = lent_bytes();
     let mut words = widened();
-    write_bytes(rec, &mut space[..count], &mut words[..count])
+    write_bytes(to, rec, &mut space[..count], &mut words[..count])
 }
 
-fn title() -> bool {
-    let mut left = MOST_TEXT;
-    while left > 0 {
+fn title<R: Read, W: Write>(from: &mut R, to: &mut W) -> Result<(), Unread> {
+    for _ in 0..MOST_TEXT {
         let mut byte = [0u8; 1];
-        if io::read_full(STDIN_FILENO, &mut byte) != 1 {
-            return false;
+        if read_full(from, &mut byte)? != 1 {
+            break;
         }
-        text(&byte);
+        text(to, &byte)?;
         if byte[0] == b'\n' {
-            return true;
+            return Ok(());
         }
-        left -= 1;
     }
-    false
+    Err(Unread::Line)
 }
 
-pub fn asked(name: u8, rec: &[u64]) -> bool {
-    if name == b'q' {
-        return quality(rec);
+// Reads the rest of a command's line and runs it; or answers that the command is none of these.
+pub fn asked<R: Read, W: Write>(
+    name: u8,
+    from: &mut R,
+    to: &mut W,
+    rec: &[u64],
+) -> Result<bool, Unread> {
+    match name {
+        b'q' => quality(from, to, rec)?,
+        b'a' => may(from, to, rec)?,
+        b'c' => read(from, to)?,
+        b'b' => write(from, to, rec)?,
+        b't' => title(from, to)?,
+        _ => return Ok(false),
     }
-    if name == b'a' {
-        return may(rec);
-    }
-    if name == b'c' {
-        return read();
-    }
-    if name == b'b' {
-        return write(rec);
-    }
-    if name == b't' {
-        return title();
-    }
-    false
+    Ok(true)
 }

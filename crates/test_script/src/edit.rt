@@ -2,108 +2,96 @@
 use crate::lent::{MOST_WORDS, lent};
 use crate::list::list;
 use panel::{panel_eliminate, panel_mine, panel_restore, panel_review, panel_strike};
-use test_input::{last_numbers, numbers};
+use std::io::{Read, Write};
+use test_input::{Unread, last_numbers, numbers};
 use test_support::case;
 
-fn mine_words(n: u64, m: u64, crew: &mut [u64], rec: &mut [u64]) -> bool {
-    if !last_numbers(crew) {
-        return false;
-    }
+fn mine_words<R: Read, W: Write>(
+    from: &mut R,
+    to: &mut W,
+    n: u64,
+    m: u64,
+    crew: &mut [u64],
+    rec: &mut [u64],
+) -> Result<(), Unread> {
+    last_numbers(from, crew)?;
     let a = panel_mine(n, m, crew, rec);
-    case(b"mine", &[n, m], &[a.code, a.candidates], rec);
-    true
+    case(to, b"mine", &[n, m], &[a.code, a.candidates], rec)?;
+    Ok(())
 }
 
-fn mine(rec: &mut [u64]) -> bool {
+fn mine<R: Read, W: Write>(from: &mut R, to: &mut W, rec: &mut [u64]) -> Result<(), Unread> {
     let mut head = [0u64; 3];
-    if !numbers(&mut head) {
-        return false;
-    }
+    numbers(from, &mut head)?;
     let n = head[0];
     let m = head[1];
     let count = head[2] as usize;
     if MOST_WORDS < count {
-        return false;
+        return Err(Unread::Line);
     }
     let mut crew = lent();
-    mine_words(n, m, &mut crew[..count], rec)
+    mine_words(from, to, n, m, &mut crew[..count], rec)
 }
 
-fn strike(rec: &mut [u64]) -> bool {
+fn strike<R: Read, W: Write>(from: &mut R, to: &mut W, rec: &mut [u64]) -> Result<(), Unread> {
     let mut w = [0u64; 1];
-    if !last_numbers(&mut w) {
-        return false;
-    }
+    last_numbers(from, &mut w)?;
     let a = panel_strike(rec, w[0]);
-    case(b"strike", &w, &[a.code], rec);
-    true
+    case(to, b"strike", &w, &[a.code], rec)?;
+    Ok(())
 }
 
-fn restore(rec: &mut [u64]) -> bool {
+fn restore<R: Read, W: Write>(from: &mut R, to: &mut W, rec: &mut [u64]) -> Result<(), Unread> {
     let mut w = [0u64; 1];
-    if !last_numbers(&mut w) {
-        return false;
-    }
+    last_numbers(from, &mut w)?;
     let a = panel_restore(rec, w[0]);
-    case(b"restore", &w, &[a.code], rec);
-    true
+    case(to, b"restore", &w, &[a.code], rec)?;
+    Ok(())
 }
 
-fn eliminate(rec: &mut [u64]) -> bool {
+fn eliminate<R: Read, W: Write>(from: &mut R, to: &mut W, rec: &mut [u64]) -> Result<(), Unread> {
     let mut w = [0u64; 6];
-    if !last_numbers(&mut w) {
-        return false;
-    }
+    last_numbers(from, &mut w)?;
     let a = panel_eliminate(rec, w[0], w[1], w[2], w[3], w[4], w[5]);
-    case(b"eliminate", &w, &[a.code, a.removed, a.examined], rec);
-    true
+    case(to, b"eliminate", &w, &[a.code, a.removed, a.examined], rec)?;
+    Ok(())
 }
 
-fn review(rec: &mut [u64]) -> bool {
+fn review<R: Read, W: Write>(from: &mut R, to: &mut W, rec: &mut [u64]) -> Result<(), Unread> {
     let mut w = [0u64; 4];
-    if !last_numbers(&mut w) {
-        return false;
-    }
+    last_numbers(from, &mut w)?;
     let a = panel_review(rec, w[0], w[1], w[2], w[3]);
-    case(b"review", &w, &[a.code, a.restored, a.examined], rec);
-    true
+    case(to, b"review", &w, &[a.code, a.restored, a.examined], rec)?;
+    Ok(())
 }
 
-fn damage(rec: &mut [u64]) -> bool {
+fn damage<R: Read, W: Write>(from: &mut R, to: &mut W, rec: &mut [u64]) -> Result<(), Unread> {
     let mut w = [0u64; 2];
-    if !last_numbers(&mut w) {
-        return false;
-    }
+    last_numbers(from, &mut w)?;
     let place = w[0] as usize;
     if rec.len() <= place {
-        return false;
+        return Err(Unread::Line);
     }
     rec[place] = w[1];
-    case(b"word", &w, &[0u64; 0], rec);
-    true
+    case(to, b"word", &w, &[], rec)?;
+    Ok(())
 }
 
-pub fn edited(name: u8, rec: &mut [u64]) -> bool {
-    if name == b'm' {
-        return mine(rec);
+// Reads the rest of a command's line and runs it.
+pub fn edited<R: Read, W: Write>(
+    name: u8,
+    from: &mut R,
+    to: &mut W,
+    rec: &mut [u64],
+) -> Result<(), Unread> {
+    match name {
+        b'm' => mine(from, to, rec),
+        b's' => strike(from, to, rec),
+        b'r' => restore(from, to, rec),
+        b'e' => eliminate(from, to, rec),
+        b'v' => review(from, to, rec),
+        b'l' => list(from, to, rec),
+        b'd' => damage(from, to, rec),
+        _ => Err(Unread::Line),
     }
-    if name == b's' {
-        return strike(rec);
-    }
-    if name == b'r' {
-        return restore(rec);
-    }
-    if name == b'e' {
-        return eliminate(rec);
-    }
-    if name == b'v' {
-        return review(rec);
-    }
-    if name == b'l' {
-        return list(rec);
-    }
-    if name == b'd' {
-        return damage(rec);
-    }
-    false
 }

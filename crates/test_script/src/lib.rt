@@ -1,4 +1,4 @@
-// Runs a script that it reads from standard input, and prints a line for each call: its numbers, what it answers, and a digest of the words that it
+// Runs a script that it reads, and prints a line for each call: its numbers, what it answers, and a digest of the words that it
 // leaves. One record goes through the whole script.
 //
 // A command is a line: the byte that names it, and then each of its numbers as a blank and 16 hexadecimal digits. The bytes and the numbers:
@@ -26,76 +26,76 @@ mod list;
 
 use crate::ask::asked;
 use crate::edit::edited;
-use libc::STDIN_FILENO;
+use std::io;
+use std::io::{Read, Write};
+use streams::read_full;
 use tables::LENGTH;
-use test_input::last_numbers;
+use test_input::{Unread, last_numbers};
 use test_support::text;
 
 const MOST_COMMANDS: u64 = 1_000_000;
 
-// How many words the calls are lent from now on; or that the line can't be read.
-#[derive(Clone, Copy)]
-enum Width {
-    Words(usize),
-    Nothing,
-}
-
-fn next_width(most: usize) -> Width {
+// How many words the calls are lent from now on.
+fn next_width<R: Read>(from: &mut R, most: usize) -> Result<usize, Unread> {
     let mut w = [0u64; 1];
-    if !last_numbers(&mut w) {
-        return Width::Nothing;
-    }
+    last_numbers(from, &mut w)?;
     let count = w[0] as usize;
     if most < count {
-        return Width::Nothing;
+        return Err(Unread::Line);
     }
-    Width::Words(count)
+    Ok(count)
 }
 
 // Reads the rest of a command's line and runs it.
-fn command(name: u8, rec: &mut [u64]) -> bool {
-    if asked(name, rec) {
-        return true;
+fn command<R: Read, W: Write>(
+    name: u8,
+    from: &mut R,
+    to: &mut W,
+    rec: &mut [u64],
+) -> Result<(), Unread> {
+    if asked(name, from, to, rec)? {
+        return Ok(());
     }
-    edited(name, rec)
+    edited(name, from, to, rec)
 }
 
-// One line of the script.
-fn step(name: u8, rec: &mut [u64], count: usize) -> Width {
+// One line of the script; how many words the calls are lent after it.
+fn step<R: Read, W: Write>(
+    name: u8,
+    from: &mut R,
+    to: &mut W,
+    rec: &mut [u64],
+    count: usize,
+) -> Result<usize, Unread> {
     if name == b'w' {
-        return next_width(rec.len());
+        return next_width(from, rec.len());
     }
     if rec.len() < count {
-        return Width::Nothing;
+        return Err(Unread::Line);
     }
-    if command(name, &mut rec[..count]) {
-        return Width::Words(count);
-    }
-    Width::Nothing
+    command(name, from, to, &mut rec[..count])?;
+    Ok(count)
 }
 
-// Whether the script was read to its end.
-fn run(rec: &mut [u64]) -> bool {
+// Runs the script to its end.
+fn run<R: Read, W: Write>(from: &mut R, to: &mut W, rec: &mut [u64]) -> Result<(), Unread> {
     let mut count = LENGTH;
-    let mut left = MOST_COMMANDS;
-    while left > 0 {
+    for _ in 0..MOST_COMMANDS {
         let mut name = [0u8; 1];
-        if io::read_full(STDIN_FILENO, &mut name) != 1 {
-            return true;
+        if read_full(from, &mut name)? != 1 {
+            return Ok(());
         }
-        let Width::Words(next) = step(name[0], rec, count) else {
-            return false;
-        };
-        count = next;
-        left -= 1;
+        count = step(name[0], from, to, rec, count)?;
     }
-    false
+    Err(Unread::Line)
 }
 
-pub fn run_script() {
+pub fn run_script<R: Read, W: Write>(from: &mut R, to: &mut W) -> io::Result<()> {
     // one word more than a record has, so that longer ones can be lent too
     let mut rec = [0xaaaa_aaaa_aaaa_aaaau64; LENGTH + 1];
-    if !run(&mut rec) {
-        text(b"unreadable\n");
+    match run(from, to, &mut rec) {
+        Ok(()) => Ok(()),
+        Err(Unread::Line) => text(to, b"unreadable\n"),
+        Err(Unread::Io(error)) => Err(error),
     }
 }

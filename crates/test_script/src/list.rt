@@ -1,55 +1,47 @@
 // A list of calls served in one go.
 use crate::lent::{MOST_WORDS, lent};
 use panel::{Served, serve};
-use test_input::{last_numbers, numbers};
+use std::io::{Read, Write};
+use test_input::{Unread, last_numbers, numbers};
 use test_support::case;
 
-fn serve_words(
+fn serve_words<R: Read, W: Write>(
+    from: &mut R,
+    to: &mut W,
     n: u64,
     m: u64,
     crew: &mut [u64],
     calls: &mut [u64],
     out: &mut [u64],
     rec: &mut [u64],
-) -> bool {
-    if !numbers(crew) {
-        return false;
+) -> Result<(), Unread> {
+    numbers(from, crew)?;
+    last_numbers(from, calls)?;
+    match serve(n, m, crew, calls, rec, out) {
+        Served::Unreadable => case(to, b"list unreadable", &[], out, rec)?,
+        Served::Refused(code) => case(to, b"list refused", &[code], out, rec)?,
+        Served::Mined(candidates) => case(to, b"list mined", &[candidates], out, rec)?,
     }
-    if !last_numbers(calls) {
-        return false;
-    }
-    let served = serve(n, m, crew, calls, rec, out);
-    match served {
-        Served::Unreadable => case(b"list unreadable", &[0u64; 0], out, rec),
-        Served::Refused(code) => case(b"list refused", &[code], out, rec),
-        Served::Mined(candidates) => case(b"list mined", &[candidates], out, rec),
-    }
-    true
+    Ok(())
 }
 
-pub fn list(rec: &mut [u64]) -> bool {
+pub fn list<R: Read, W: Write>(from: &mut R, to: &mut W, rec: &mut [u64]) -> Result<(), Unread> {
     let mut head = [0u64; 5];
-    if !numbers(&mut head) {
-        return false;
-    }
+    numbers(from, &mut head)?;
     let n = head[0];
     let m = head[1];
     let rows = head[2] as usize;
     let words = head[3] as usize;
     let answers = head[4] as usize;
-    if MOST_WORDS < rows {
-        return false;
-    }
-    if MOST_WORDS < words {
-        return false;
-    }
-    if MOST_WORDS < answers {
-        return false;
+    if MOST_WORDS < rows || MOST_WORDS < words || MOST_WORDS < answers {
+        return Err(Unread::Line);
     }
     let mut crew = lent();
     let mut calls = lent();
     let mut out = lent();
     serve_words(
+        from,
+        to,
         n,
         m,
         &mut crew[..rows],

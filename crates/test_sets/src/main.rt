@@ -6,6 +6,8 @@ ghost use Rattle.std.specs.Prelude.{◌≡◌, true};
 use sets::Item;
 use sets_128::Set128;
 use sets_256::Set256;
+use std::io;
+use std::io::Write;
 use test_support::{number, text};
 
 // What a line says of a set and of one that may hold it.
@@ -20,35 +22,33 @@ struct Row {
     less: bool,
 }
 
-fn flag(f: bool) {
-    if f { number(1) } else { number(0) }
+fn flag<W: Write>(to: &mut W, f: bool) -> io::Result<()> {
+    number(to, u64::from(f))
 }
 
-fn item(i: Item) {
+fn item<W: Write>(to: &mut W, i: Item) -> io::Result<()> {
     match i {
-        Item::At(n) => number(n as u64),
-        Item::Nothing => text(b" -"),
+        Item::At(n) => number(to, n as u64),
+        Item::Nothing => text(to, b" -"),
     }
 }
 
-fn print(width: u64, i: u8, row: Row) {
-    text(b"width");
-    number(width);
-    number(i as u64);
-    text(b":");
-    flag(row.contains);
-    number(row.count as u64);
-    number(row.other_count as u64);
-    let lowest = row.lowest;
-    item(lowest);
-    let highest = row.other_highest;
-    item(highest);
-    flag(row.proper);
-    flag(row.less);
-    text(b"\n");
+fn print<W: Write>(to: &mut W, width: u64, i: u8, row: Row) -> io::Result<()> {
+    text(to, b"width")?;
+    number(to, width)?;
+    number(to, u64::from(i))?;
+    text(to, b":")?;
+    flag(to, row.contains)?;
+    number(to, row.count as u64)?;
+    number(to, row.other_count as u64)?;
+    item(to, row.lowest)?;
+    item(to, row.other_highest)?;
+    flag(to, row.proper)?;
+    flag(to, row.less)?;
+    text(to, b"\n")
 }
 
-fn case128(i: u8) {
+fn case128<W: Write>(to: &mut W, i: u8) -> io::Result<()> {
     let a = Set128::empty().insert(i as usize);
     let b = Set128::below(i as usize + 1);
     let row = Row {
@@ -60,10 +60,10 @@ fn case128(i: u8) {
         proper: a.is_proper_subset(b),
         less: a.less(b),
     };
-    print(128, i, row);
+    print(to, 128, i, row)
 }
 
-fn case256(i: u8) {
+fn case256<W: Write>(to: &mut W, i: u8) -> io::Result<()> {
     let a = Set256::empty().insert(i as usize);
     let b = Set256::below(i as usize + 1);
     let row = Row {
@@ -75,7 +75,7 @@ fn case256(i: u8) {
         proper: a.is_proper_subset(b),
         less: a.less(b),
     };
-    print(256, i, row);
+    print(to, 256, i, row)
 }
 
 // What is left of a set without another has nothing in common with that other: a caller knows it from the library's promises.
@@ -85,20 +85,15 @@ fn apart(a: Set256, b: Set256) -> bool
     a.difference(b).intersection(b).is_empty()
 }
 
-fn main() {
-    case128(0);
-    case128(63);
-    case128(64);
-    case128(127);
-    case128(128);
-    case128(255);
-    case256(0);
-    case256(63);
-    case256(64);
-    case256(127);
-    case256(128);
-    case256(255);
-    text(b"apart:");
-    flag(apart(Set256::below(200), Set256::below(100)));
-    text(b"\n");
+fn main(rt: HostRuntime) -> io::Result<()> {
+    let mut out = rt.stdout();
+    for i in [0, 63, 64, 127, 128, 255] {
+        case128(&mut out, i)?;
+    }
+    for i in [0, 63, 64, 127, 128, 255] {
+        case256(&mut out, i)?;
+    }
+    text(&mut out, b"apart:")?;
+    flag(&mut out, apart(Set256::below(200), Set256::below(100)))?;
+    text(&mut out, b"\n")
 }

@@ -2,9 +2,11 @@
 #![tactic(auto)]
 
 mod bytes;
+mod files;
 mod mixing;
 mod show;
 
 pub use bytes::widen;
+pub use files::{MOST_FILES, next_file};
 pub use mixing::digest;
 pub use show::{case, number, text};

@@ -1,30 +1,34 @@
 // How a case is printed: its name and numbers, a colon, what was answered, and the digest of the words that it left.
 use crate::mixing::digest;
-use libc::STDOUT_FILENO;
+use std::io;
+use std::io::Write;
 
-pub fn text(bytes: &[u8]) {
-    io::write_all(STDOUT_FILENO, bytes);
+pub fn text<W: Write>(to: &mut W, bytes: &[u8]) -> io::Result<()> {
+    to.write_all(bytes)
 }
 
-pub fn number(n: u64) {
-    text(b" ");
-    io::print_decimal(STDOUT_FILENO, n);
+pub fn number<W: Write>(to: &mut W, n: u64) -> io::Result<()> {
+    write!(to, " {n}")
 }
 
-fn each(numbers: &[u64]) {
-    let mut i = 0;
-    while i < numbers.len() {
-        number(numbers[i]);
-        i += 1;
+fn each<W: Write>(to: &mut W, numbers: &[u64]) -> io::Result<()> {
+    for n in numbers {
+        number(to, *n)?;
     }
+    Ok(())
 }
 
-pub fn case(name: &[u8], numbers: &[u64], answers: &[u64], words: &[u64]) {
-    text(name);
-    each(numbers);
-    text(b":");
-    each(answers);
-    text(b" ");
-    io::print_hex(STDOUT_FILENO, digest(words), 16);
-    text(b"\n");
+pub fn case<W: Write>(
+    to: &mut W,
+    name: &[u8],
+    numbers: &[u64],
+    answers: &[u64],
+    words: &[u64],
+) -> io::Result<()> {
+    text(to, name)?;
+    each(to, numbers)?;
+    text(to, b":")?;
+    each(to, answers)?;
+    let left = digest(words);
+    writeln!(to, " {left:016x}")
 }

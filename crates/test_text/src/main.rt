@@ -4,12 +4,18 @@
 
 ghost use Rattle.std.specs.Prelude.{◌≡◌, length};
 
-use libc::STDIN_FILENO;
+use std::io;
+use std::io::Write;
+use streams::read_full;
 use test_support::case;
 use text::Field;
 use text_sets::{hexadecimal_set, read_hexadecimal};
 
+const MOST_INPUT: usize = 65536;
+
 const MOST_WORDS: usize = 600;
+
+const MOST_CASES: usize = 1000;
 
 fn number_at(input: &[u8], at: usize) -> usize {
     let Field::Ends(_) = read_hexadecimal(input, at, 4) else {
@@ -18,9 +24,9 @@ fn number_at(input: &[u8], at: usize) -> usize {
     hexadecimal_set(input, at, 4).word(0) as usize
 }
 
-fn run(text: &[u8], words: &mut [u64]) {
+fn run<W: Write>(to: &mut W, text: &[u8], words: &mut [u64]) -> io::Result<()> {
     let r = text_crew::read_crew(text, words);
-    case(b"read", &[0u64; 0], &[r.code, r.n, r.m], words);
+    case(to, b"read", &[], &[r.code, r.n, r.m], words)
 }
 
 // Words that show what was written to them.
@@ -31,41 +37,34 @@ fn lent() -> [u64; MOST_WORDS]
 }
 
 // Runs the case at place `at`; the place after it, or the input's end where there is no whole case.
-fn run_case(input: &[u8], at: usize) -> usize {
-    if input.len() < 10 {
-        return input.len();
-    }
-    if input.len() - 10 < at {
-        return input.len();
+fn run_case<W: Write>(to: &mut W, input: &[u8], at: usize) -> io::Result<usize> {
+    if input.len() < 10 || input.len() - 10 < at {
+        return Ok(input.len());
     }
     let size = number_at(input, at);
     let count = number_at(input, at + 5);
     let start = at + 10;
-    if input.len() - start < size {
-        return input.len();
-    }
-    if MOST_WORDS < count {
-        return input.len();
+    if input.len() - start < size || MOST_WORDS < count {
+        return Ok(input.len());
     }
     let mut words = lent();
-    run(&input[start..start + size], &mut words[..count]);
-    start + size
+    run(to, &input[start..start + size], &mut words[..count])?;
+    Ok(start + size)
 }
 
-fn run_all(input: &[u8]) {
+fn run_all<W: Write>(to: &mut W, input: &[u8]) -> io::Result<()> {
     let mut at = 0;
-    let mut left = 1000u64;
-    while left > 0 {
+    for _ in 0..MOST_CASES {
         if input.len() <= at {
-            return;
+            break;
         }
-        at = run_case(input, at);
-        left -= 1;
+        at = run_case(to, input, at)?;
     }
+    Ok(())
 }
 
-fn main() {
-    let mut input = io::large_buffer();
-    let n = io::read_full(STDIN_FILENO, &mut input);
-    run_all(&input[..n]);
+fn main(rt: HostRuntime) -> io::Result<()> {
+    let mut input = [0u8; MOST_INPUT];
+    let n = read_full(&mut rt.stdin(), &mut input)?;
+    run_all(&mut rt.stdout(), &input[..n])
 }

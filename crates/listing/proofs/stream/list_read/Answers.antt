@@ -1,16 +1,10 @@
 -- What is listed of the bytes read is the listing of the text.
 -- Assumes nothing.
-use mathlib.Core.Path.{sym}
-use native.Mathlib.Omega.{arith}
-use lib.ListN.{length}
-use lib.Seq.{length-take-le}
+use Rattle.std.proofs.Common.{arith, length}
 use Rattle.listing.proofs.Cut.{cut_listed}
 use Rattle.listing.proofs.stream.list_read.Goals as goal
 
-pub slice_bounds-list_roles-end : goal.slice_bounds-list_roles-end
-slice_bounds-list_roles-end c = sym (length-take-le _ c.args.input.now (omega arith))
-
-pub returns : goal.returns
-returns c = let a = c.args in
+pub returns-clause-by_index : goal.returns-clause-by_index
+returns-clause-by_index c text e =
     let l = c.list_roles.ensures in
-    record { by_index = λ text e. cut_listed (length a.input.now) a.n _ a.input.now text _ _ (omega arith) e (l.0, l.1); upper_bound = l.2 }
+    cut_listed (length c.args.input.now) c.args.n _ c.args.input.now text _ _ (omega arith) e (l.0, l.1)

@@ -1,9 +1,14 @@
 -- What is written is the part of the output that the listing fills.
 -- Assumes nothing.
-use mathlib.Core.Path.{sym}
-use native.Mathlib.Omega.{arith}
-use lib.Seq.{length-take-le}
+use Rattle.streams.proofs.Texts.{of_what_was_written}
+use Rattle.listing.specs.Listing.{listing}
 use Rattle.listing.proofs.stream.list_stream.Goals as goal
 
-pub slice_bounds-write_all-end : goal.slice_bounds-write_all-end
-slice_bounds-write_all-end c = sym (length-take-le c.type_inv.out.result c.type_inv.out.new.1.1.0 (omega arith))
+pub returns : goal.returns
+returns g c =
+    let read = c.in_ok-n.ensures in
+    let put = c.list_read-end.ensures in
+    of_what_was_written c.write_all.result _ _ _ _ _ _ c.list_read-end.new.out c.in_ok-n.n c.list_read-end.result listing
+    read.bound put.upper_bound read.bytes read.end
+    (λ text e. let p = put.by_index text e in (p.size, p.bytes))
+    c.write_all.ensures.bytes

@@ -1,7 +1,6 @@
 -- The first i words are the first i bytes.
 -- Assumes nothing.
 use mathlib.Core.Path.{refl, sym}
-use Prim.Native.Nat.{◌-◌}
 use native.Mathlib.Omega.{arith}
 use lib.ListN.{length-set}
 use Rattle.test_support.proofs.Widening.{one_more, all_there}

@@ -1,7 +1,6 @@
 -- What the words that are left add to d is the whole digest.
 -- Assumes nothing.
 use mathlib.Core.Path.{sym, ◌∙◌}
-use Prim.Native.Nat.{◌-◌}
 use native.Mathlib.Omega.{arith}
 use Rattle.test_support.proofs.Digesting.{all_left, one_less, none_left}
 use Rattle.test_support.proofs.mixing.digest.Goals as goal

@@ -1,0 +1,16 @@
+// What comes back of each of many crew texts: the files 000, 001 and so on, until one is missing.
+#![tactic(auto)]
+
+use std::io;
+use test_support::{MOST_FILES, next_file};
+
+fn main(rt: HostRuntime) -> io::Result<()> {
+    let mut out = rt.stdout();
+    for number in 0..MOST_FILES {
+        let Some(mut text) = next_file(&rt, &mut out, number)? else {
+            break;
+        };
+        round_trip::hand_back_stream(&mut text, &mut out)?;
+    }
+    Ok(())
+}
