@@ -25,7 +25,11 @@ fn open<R: Files>(files: &R, name: &str) -> io::Result<Option<R::File>> {
 }
 
 // The file of this number, after a line with its name; or nothing where there is none.
-pub fn next_file<R: Files, W: Write>(files: &R, to: &mut W, number: u64) -> io::Result<Option<R::File>> {
+pub fn next_file<R: Files, W: Write>(
+    files: &R,
+    to: &mut W,
+    number: u64,
+) -> io::Result<Option<R::File>> {
     let digits = [digit(number / 100), digit(number / 10), digit(number)];
     let name = str::from_utf8(&digits).unwrap();
     let Some(file) = open(files, name)? else {
