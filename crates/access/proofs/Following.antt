@@ -6,9 +6,9 @@ use mathlib.Core.Logic.{◌≢◌, ◌⊎◌, ⊎_elim}
 use mathlib.Core.List.{List}
 use Prim.Native.Nat.{ℕ, suc, ◌*◌, ◌^◌, ◌≤◌, ◌<◌}
 use native.Mathlib.Omega.{arith}
-use Rattle.sets.specs.Truth.{if◌then◌else◌}
+use Rattle.sets.specs.Truth.{when◌then◌else◌}
 use Rattle.sets.specs.Sets.{has, ◌∪◌}
-use Rattle.sets.proofs.Truth.{by_test, So-not, not-So, if-true, if-false, either, equal_or}
+use Rattle.sets.proofs.Truth.{by_test, So-not, not-So, when-true, when-false, either, equal_or}
 use Rattle.sets.proofs.Items.{item_below, same_set, below_of_items}
 use Rattle.sets.proofs.Order.{∪-iff, ∪-lt}
 use Rattle.model.specs.Lists.{set_at}
@@ -86,14 +86,14 @@ pub following_none : (juniors : List ℕ) (s : ℕ) → Following juniors s 128 
 following_none juniors s b c few h down small = followed_none b c s few down small
 
 pub following_more : (juniors : List ℕ) (s k p t x t' : ℕ) → Following juniors s k t → k ≡ suc p → x ≡ set_at 2 juniors (2 * p)
-    → t' ≡ (if has t p then t ∪ x else t) → Following juniors s p t'
+    → t' ≡ (when has t p then t ∪ x else t) → Following juniors s p t'
 following_more juniors s k p t x t' inv e ex et b c few h down small =
     let f : Followed b c s (suc p) t = rw e at (inv b c few h down small) in
     by_test (has t p)
     (λ y.
-    rw (et ∙ if-true (has t p) (t ∪ x) t y)
+    rw (et ∙ when-true (has t p) (t ∪ x) t y)
     (followed_one b c s few down small p t x f y (ex ∙ h p (item_below c t p f.below y))))
-    (λ y. rw (et ∙ if-false (has t p) (t ∪ x) t y) (followed_past b c s few down small p t f y))
+    (λ y. rw (et ∙ when-false (has t p) (t ∪ x) t y) (followed_past b c s few down small p t f y))
 
 pub following_all : (juniors : List ℕ) (s k t : ℕ) → Following juniors s k t → k ≡ 0
     → (b : RoleRows) (c : ℕ) → c ≤ 128 → HoldsSets 2 c b.juniors juniors → Downward c b → s < 2 ^ c → t ≡ reached (link b) c s

@@ -1,7 +1,7 @@
 ghost use Rattle.std.specs.Prelude.{◌≡◌, ℕ, ◌^◌, ◌≤◌, ◌<◌, length};
 ghost use Rattle.sets_128.specs.Held.{set128};
 ghost use Rattle.sets.specs.Sets.{has, ◌∪◌};
-ghost use Rattle.sets.specs.Truth.{if◌then◌else◌};
+ghost use Rattle.sets.specs.Truth.{when◌then◌else◌};
 ghost use Rattle.model.specs.Hierarchy.{RoleRows};
 ghost use Rattle.model.specs.Chains.{link, reached};
 ghost use Rattle.tables.specs.Tables.{HoldsSets, table128_length};
@@ -27,7 +27,7 @@ pub fn reached_from(juniors: &[u64], s: Set128) -> Set128
 
 // The roles, with x besides where k is one of them.
 fn with_juniors(roles: Set128, k: usize, x: Set128) -> Set128
-    ensures { set128 result ≡ (if has (set128 roles) k then set128 roles ∪ set128 x else set128 roles) }
+    ensures { set128 result ≡ (when has (set128 roles) k then set128 roles ∪ set128 x else set128 roles) }
 {
     if roles.contains(k) {
         return roles.union(x);

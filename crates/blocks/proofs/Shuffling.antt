@@ -11,9 +11,9 @@ use lib.Bits.{bit_and, bit_or}
 use lib.Arith.{lt_of_le-ne}
 use lib.ListN.{length, get_or, set, length-set}
 use lib.Seq.{get_or-set_same, get_or-set_other}
-use Rattle.sets.specs.Truth.{◌and◌, isnt, if◌then◌else◌, all}
+use Rattle.sets.specs.Truth.{◌and◌, isnt, when◌then◌else◌, all}
 use Rattle.sets.specs.Sets.{has}
-use Rattle.sets.proofs.Truth.{by_test, either, equal_or, same_test, not-So, and_iff, isnt_iff, eqb_iff, ltb_iff, leb_iff, all_is, if-true, if-false, picked}
+use Rattle.sets.proofs.Truth.{by_test, either, equal_or, same_test, not-So, and_iff, isnt_iff, eqb_iff, ltb_iff, leb_iff, all_is, when-true, when-false, picked}
 use Rattle.sets.proofs.Words.{masked, has_shift}
 use Rattle.sets.proofs.Written.{has-and, has-or, has-masked, has-up, none-up}
 use Rattle.model.proofs.Everything.{everything}
@@ -27,10 +27,10 @@ below s m c = leb s c and has m (c - s)
 spaced_at : (s m c : ℕ) → So (spaced s m) → c < 64 → below s m c ≡ isnt (has m c)
 unfolding spaced
 spaced_at s m c h l =
-    let k = all_is 64 (λ c. if has m c then isnt (below s m c) else below s m c) h c l in
+    let k = all_is 64 (λ c. when has m c then isnt (below s m c) else below s m c) h c l in
     same_test (below s m c) (isnt (has m c))
-    (λ b. (isnt_iff (has m c)).1 (λ t. (isnt_iff (below s m c)).0 (sym (if-true (has m c) (isnt (below s m c)) (below s m c) t) ∙ k) b))
-    (λ n. sym (if-false (has m c) (isnt (below s m c)) (below s m c) (not-So (has m c) ((isnt_iff (has m c)).0 n))) ∙ k)
+    (λ b. (isnt_iff (has m c)).1 (λ t. (isnt_iff (below s m c)).0 (sym (when-true (has m c) (isnt (below s m c)) (below s m c) t) ∙ k) b))
+    (λ n. sym (when-false (has m c) (isnt (below s m c)) (below s m c) (not-So (has m c) ((isnt_iff (has m c)).0 n))) ∙ k)
 
 -- the places of the mask, s further up
 moved : (s m y c : ℕ) → So (spaced s m) → c < 64 → has (bit_and y m * 2 ^ s % 2 ^ 64) c ≡ (has y (c - s) and isnt (has m c))
@@ -44,21 +44,21 @@ moved s m y c h l =
     ∙ ap (λ (t : Bool). has y (c - s) and t)
     (same_test (has m (c - s)) (below s m c) (λ t. (and_iff (leb s c) (has m (c - s))).1 ((leb_iff s c).1 b, t)) (λ t. ((and_iff (leb s c) (has m (c - s))).0 t).1) ∙ spaced_at s m c h l))
 
-low_word : (s m x y c : ℕ) → So (spaced s m) → c < 64 → has (bit_or (bit_and x m) (bit_and y m * 2 ^ s % 2 ^ 64)) c ≡ (if has m c then has x c else has y (c - s))
+low_word : (s m x y c : ℕ) → So (spaced s m) → c < 64 → has (bit_or (bit_and x m) (bit_and y m * 2 ^ s % 2 ^ 64)) c ≡ (when has m c then has x c else has y (c - s))
 low_word s m x y c h l =
     has-or (bit_and x m) (bit_and y m * 2 ^ s % 2 ^ 64) c ∙ rw (has-and x m c, moved s m y c h l) (picked (has m c) (has x c) (has y (c - s)))
 
-high_word : (s m x y c : ℕ) → m < 2 ^ 64 → y < 2 ^ 64 → has (bit_or (bit_and (x / 2 ^ s) m) (masked y m)) c ≡ (if has m c then has x (s + c) else has y c)
+high_word : (s m x y c : ℕ) → m < 2 ^ 64 → y < 2 ^ 64 → has (bit_or (bit_and (x / 2 ^ s) m) (masked y m)) c ≡ (when has m c then has x (s + c) else has y c)
 high_word s m x y c hm hy =
     has-or (bit_and (x / 2 ^ s) m) (masked y m) c
     ∙ rw (has-and (x / 2 ^ s) m c, has-masked y m c hy hm, has_shift x s c) (picked (has m c) (has x (s + c)) (has y c))
 
 -- ---- a shuffle, two words at a time
 
-chosen : (t : Bool) (ws : List ℕ) (i j p q : ℕ) → (if t then has (get_or ws i 0) p else has (get_or ws j 0) q) ≡ has (get_or ws (if t then i else j) 0) (if t then p else q)
+chosen : (t : Bool) (ws : List ℕ) (i j p q : ℕ) → (when t then has (get_or ws i 0) p else has (get_or ws j 0) q) ≡ has (get_or ws (when t then i else j) 0) (when t then p else q)
 chosen t ws i j p q =
-    by_test t (λ h. rw (if-true t i j h, if-true t p q h) (if-true t (has (get_or ws i 0) p) (has (get_or ws j 0) q) h))
-    (λ h. rw (if-false t i j h, if-false t p q h) (if-false t (has (get_or ws i 0) p) (has (get_or ws j 0) q) h))
+    by_test t (λ h. rw (when-true t i j h, when-true t p q h) (when-true t (has (get_or ws i 0) p) (has (get_or ws j 0) q) h))
+    (λ h. rw (when-false t i j h, when-false t p q h) (when-false t (has (get_or ws i 0) p) (has (get_or ws j 0) q) h))
 
 module _ (s m : ℕ) (ws : List ℕ) (i : ℕ) where
   abbrev low_of : ℕ

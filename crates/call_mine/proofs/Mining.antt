@@ -8,7 +8,7 @@ use Prim.Native.Nat.{ℕ, zero, suc, ◌*◌, ◌≤◌, ◌<◌}
 use native.Mathlib.Omega.{arith}
 use lib.Dec.{eqb}
 use lib.ListN.{length}
-use Rattle.sets.proofs.Truth.{not-So, eqb_iff, if-true, if-false}
+use Rattle.sets.proofs.Truth.{not-So, eqb_iff, when-true, when-false}
 use Rattle.model.specs.Lists.{rows_at}
 use Rattle.model.specs.Candidates.{candidates}
 use Rattle.model.specs.Hierarchy.{candidate_count}
@@ -42,7 +42,7 @@ module _ (n m : ℕ) (crew ws : List ℕ) where
   refused_with code r a d e =
       let t = eqb (mining_refusal n m crew ws) 0 in
       let no : t ≡ false = not-So t (λ h. d (sym e ∙ (eqb_iff (mining_refusal n m crew ws) 0).0 h)) in
-      (λ i. record { code = (a.0 ∙ sym e) i; candidates = a.1 i; words = ws }) ∙ sym (if-false t _ _ no)
+      (λ i. record { code = (a.0 ∙ sym e) i; candidates = a.1 i; words = ws }) ∙ sym (when-false t _ _ no)
 
   pub lent_refused : (code : ℕ) (r : MineAnswer) → (r.code ≡ code) × (r.candidates ≡ 0) → code ≢ 0 → code ≡ lent → mine_result r ws ≡ mine n m crew ws
   lent_refused code r a d e = refused_with code r a d (halves ∙ or_else_first lent _ (λ z. d (e ∙ z)) ∙ sym e)
@@ -84,4 +84,4 @@ module _ (n m : ℕ) (crew ws : List ℕ) where
       unfolding mine_result mine
       mined r after e0 ec ea =
           let t = eqb (mining_refusal n m crew ws) 0 in
-          (λ i. record { code = e0 i; candidates = (ec ∙ count) i; words = ea i }) ∙ sym (if-true t _ _ ((eqb_iff (mining_refusal n m crew ws) 0).1 none))
+          (λ i. record { code = e0 i; candidates = (ec ∙ count) i; words = ea i }) ∙ sym (when-true t _ _ ((eqb_iff (mining_refusal n m crew ws) 0).1 none))

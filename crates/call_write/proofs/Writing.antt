@@ -8,7 +8,7 @@ use Prim.Native.Nat.{ℕ, ◌≤◌, ◌<◌}
 use native.Mathlib.Omega.{arith}
 use lib.Dec.{eqb}
 use lib.ListN.{length, get_or, drop}
-use Rattle.sets.proofs.Truth.{not-So, equal_or, eqb_iff, if-true, if-false}
+use Rattle.sets.proofs.Truth.{not-So, equal_or, eqb_iff, when-true, when-false}
 use Rattle.model.specs.Lists.{rows_at}
 use Rattle.model.specs.Refusals.{space_refusal}
 use Rattle.model.specs.Record.{crew_start, state_of, sound}
@@ -30,11 +30,11 @@ module _ (ws buffer : List ℕ) where
 
   pub write_accepted : no ≡ 0 → write_crew ws buffer ≡ record { code = 0; size = length (record_text ws); bytes = record_text ws ++ drop (length (record_text ws)) buffer }
   unfolding write_crew
-  write_accepted e = if-true (eqb no 0) _ _ ((eqb_iff no 0).1 e)
+  write_accepted e = when-true (eqb no 0) _ _ ((eqb_iff no 0).1 e)
 
   pub write_refused : no ≢ 0 → write_crew ws buffer ≡ record { code = no; size = 0; bytes = buffer }
   unfolding write_crew
-  write_refused d = if-false (eqb no 0) _ _ (not-So (eqb no 0) (λ h. d ((eqb_iff no 0).0 h)))
+  write_refused d = when-false (eqb no 0) _ _ (not-So (eqb no 0) (λ h. d ((eqb_iff no 0).0 h)))
 
   pub write_code : (write_crew ws buffer).code ≡ no
   write_code =

@@ -1,7 +1,7 @@
 -- Request 1 of 02: "a writer from a sound record to the crew text". What it answers, and what it leaves in the lent buffer.
 -- Assumes nothing.
 use Rattle.std.specs.Prelude.{List, ◌++◌, ℕ, eqb, length, drop}
-use Rattle.sets.specs.Truth.{if◌then◌else◌}
+use Rattle.sets.specs.Truth.{when◌then◌else◌}
 use Rattle.model.specs.Refusals.{◌or_else◌, space_refusal}
 use Rattle.model.specs.Calls.{unfit}
 use Rattle.text_write.specs.Text.{record_text}
@@ -20,5 +20,5 @@ pub record Written : Type 0 where
 unfoldable pub write_crew : List ℕ → List ℕ → Written
 write_crew ws buffer =
     let text = record_text ws in
-    if eqb (write_refusal ws buffer) 0 then record { code = 0; size = length text; bytes = text ++ drop (length text) buffer }
+    when eqb (write_refusal ws buffer) 0 then record { code = 0; size = length text; bytes = text ++ drop (length text) buffer }
     else record { code = write_refusal ws buffer; size = 0; bytes = buffer }

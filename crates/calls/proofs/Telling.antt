@@ -4,14 +4,14 @@ use mathlib.Core.Path.{◌≡◌, sym, ◌∙◌, ap}
 use mathlib.Core.Logic.{◌≢◌}
 use Prim.Native.Nat.{ℕ}
 use lib.Dec.{eqb}
-use Rattle.sets.proofs.Truth.{not-So, eqb_iff, if-true, if-false}
+use Rattle.sets.proofs.Truth.{not-So, eqb_iff, when-true, when-false}
 use Rattle.model.specs.Refusals.{◌or_else◌}
 use Rattle.model.specs.Calls.{told}
 use Rattle.model.proofs.Refusals.{or_else_first, or_else_next}
 
 refused : (code value : ℕ) → code ≢ 0 → record { code = code; value = 0 } ≡ told code value
 unfolding told
-refused code value d = sym (if-false (eqb code 0) _ _ (not-So (eqb code 0) (λ h. d ((eqb_iff code 0).0 h))))
+refused code value d = sym (when-false (eqb code 0) _ _ (not-So (eqb code 0) (λ h. d ((eqb_iff code 0).0 h))))
 
 module _ (a b value : ℕ) where
   -- the first check finds something, the second does, and neither does
@@ -24,4 +24,4 @@ module _ (a b value : ℕ) where
 
   pub told_value : a ≡ 0 → b ≡ 0 → record { code = 0; value = value } ≡ told (a or_else b) value
   unfolding told
-  told_value za zb = sym (if-true (eqb (a or_else b) 0) _ _ ((eqb_iff (a or_else b) 0).1 (or_else_next a b za ∙ zb)))
+  told_value za zb = sym (when-true (eqb (a or_else b) 0) _ _ ((eqb_iff (a or_else b) 0).1 (or_else_next a b za ∙ zb)))

@@ -9,7 +9,7 @@ use lib.Dec.{eqb}
 use lib.ListN.{length, get_or}
 use Rattle.sets.specs.Truth.{isnt}
 use Rattle.sets.specs.Sets.{has}
-use Rattle.sets.proofs.Truth.{eqb_iff, isnt_iff, if-true}
+use Rattle.sets.proofs.Truth.{eqb_iff, isnt_iff, when-true}
 use Rattle.model.specs.Lists.{set_at}
 use Rattle.model.specs.Hierarchy.{candidate_count}
 use Rattle.model.specs.Machine.{Call, Run, reply, refusal, accepted}
@@ -33,7 +33,7 @@ module _ (ws : List ℕ) (call : Call) where
   pub edit_unfit : (code : ℕ) → code ≢ 0 → code ≡ unfit ws → replied_with code ws ≡ edit ws call
   unfolding edit
   edit_unfit code d e =
-      (λ i. replied_with (e i) ws) ∙ sym (if-true (isnt (eqb (unfit ws) 0)) _ _ ((isnt_iff (eqb (unfit ws) 0)).1 (λ h. d (e ∙ (eqb_iff (unfit ws) 0).0 h))))
+      (λ i. replied_with (e i) ws) ∙ sym (when-true (isnt (eqb (unfit ws) 0)) _ _ ((isnt_iff (eqb (unfit ws) 0)).1 (λ h. d (e ∙ (eqb_iff (unfit ws) 0).0 h))))
 
   -- refused by the machine
   pub edit_refused : unfit ws ≡ 0 → (code : ℕ) → code ≢ 0 → code ≡ refusal (state_of ws) call → replied_with code ws ≡ edit ws call

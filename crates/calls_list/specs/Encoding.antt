@@ -1,16 +1,16 @@
 -- A list of calls as words: seven to a call, its kind and up to six numbers; words that the kind does not name are not looked at. Three to an answer.
 -- Assumes nothing.
 use Rattle.std.specs.Prelude.{Bool, List, [], ◌∷◌, ℕ, zero, suc, ◌+◌, ◌*◌, ◌/◌, eqb, ltb, length, get_or}
-use Rattle.sets.specs.Truth.{◌and◌, if◌then◌else◌, all}
+use Rattle.sets.specs.Truth.{◌and◌, when◌then◌else◌, all}
 use Rattle.model.specs.Machine.{Call, Reply}
 use Rattle.model.specs.Machine.Call.{strike, restore, eliminate, review}
 use Rattle.quality.specs.Numbers.{weights_of, tolerance_of}
 
 unfoldable pub call_at : List ℕ → ℕ → Call
 call_at ws i =
-    if eqb (get_or ws i 0) 0 then strike (get_or ws (i + 1) 0)
-    else if eqb (get_or ws i 0) 1 then restore (get_or ws (i + 1) 0)
-    else if eqb (get_or ws i 0) 2 then
+    when eqb (get_or ws i 0) 0 then strike (get_or ws (i + 1) 0)
+    else when eqb (get_or ws i 0) 1 then restore (get_or ws (i + 1) 0)
+    else when eqb (get_or ws i 0) 2 then
     eliminate (weights_of (get_or ws (i + 1) 0) (get_or ws (i + 2) 0) (get_or ws (i + 3) 0) (get_or ws (i + 4) 0))
     (tolerance_of (get_or ws (i + 5) 0) (get_or ws (i + 6) 0))
     else review (weights_of (get_or ws (i + 1) 0) (get_or ws (i + 2) 0) (get_or ws (i + 3) 0) (get_or ws (i + 4) 0))

@@ -5,9 +5,9 @@ use mathlib.Core.Bool.{Bool, So}
 use mathlib.Core.Logic.{◌⊎◌, ⊎_elim}
 use mathlib.Core.List.{List}
 use Prim.Native.Nat.{ℕ}
-use Rattle.sets.specs.Truth.{if◌then◌else◌}
+use Rattle.sets.specs.Truth.{when◌then◌else◌}
 use Rattle.sets.specs.Sets.{has, ◌∪◌, ◌∖◌, single}
-use Rattle.sets.proofs.Truth.{by_test, So-not, if-true, if-false, equal_or}
+use Rattle.sets.proofs.Truth.{by_test, So-not, when-true, when-false, equal_or}
 use Rattle.sets.proofs.Items.{same_set, has-zero}
 use Rattle.sets.proofs.Order.{∪-iff, ∖-iff, single_iff}
 use Rattle.model.specs.Lists.{set_at}
@@ -54,7 +54,7 @@ direct_held st index k h p t = h p ((permission_iff (roles_of st) st.standing k 
 pub gathering_more : (ws index : List ℕ) (found rest k : ℕ) (t : Bool) (found' rest' : ℕ) → Gathering ws index found rest → So (has rest k)
     → ((st : State) → Limits st → ws ≡ built st → Indexed (roles_of st) index → HoldersFor (roles_of st) (direct_permissions (roles_of st) st.standing k) index
     → So (has st.standing k) → t ≡ strikable (roles_of st) st.standing k)
-    → found' ≡ (if t then found ∪ single k else found) → rest' ≡ rest ∖ single k → Gathering ws index found' rest'
+    → found' ≡ (when t then found ∪ single k else found) → rest' ≡ rest ∖ single k → Gathering ws index found' rest'
 gathering_more ws index found rest k t found' rest' inv there tells ef er st told =
     let v = inv st told in
     let ρ = roles_of st in
@@ -65,7 +65,7 @@ gathering_more ws index found rest k t found' rest' inv there tells ef er st tol
     let on : (j : ℕ) → So (has rest' j) → So (has R j) = λ j x. v.standing j ((∖-iff rest (single k) j).0 (rw er at x)).0 in
     by_test t
     (λ y.
-    let f : found' ≡ found ∪ single k = ef ∙ if-true t (found ∪ single k) found y in
+    let f : found' ≡ found ∪ single k = ef ∙ when-true t (found ∪ single k) found y in
     record {
       right = λ j x.
           ⊎_elim (λ z. v.right j z) (λ z. let d : k ≡ j = (single_iff k j).0 z in rw d at ((strikables_iff ρ R k).1 (lk, sym e ∙ y)))
@@ -78,7 +78,7 @@ gathering_more ws index found rest k t found' rest' inv there tells ef er st tol
       standing = on;
     })
     (λ y.
-    let f : found' ≡ found = ef ∙ if-false t (found ∪ single k) found y in
+    let f : found' ≡ found = ef ∙ when-false t (found ∪ single k) found y in
     record {
       right = λ j x. v.right j (rw f at x);
       whole = λ j x.

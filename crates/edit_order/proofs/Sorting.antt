@@ -10,9 +10,9 @@ use borrow.Rule.Slice.PartMut.{put_mid}
 use lib.Dec.{ltb}
 use lib.ListN.{length, get_or, take, drop, set}
 use lib.Seq.{get_or-set_same, get_or-set_other}
-use Rattle.sets.specs.Truth.{if◌then◌else◌}
+use Rattle.sets.specs.Truth.{when◌then◌else◌}
 use Rattle.sets.specs.Sets.{has, ◌∪◌, ◌∖◌, single}
-use Rattle.sets.proofs.Truth.{either, equal_or, So-not, ltb_iff, if-true}
+use Rattle.sets.proofs.Truth.{either, equal_or, So-not, ltb_iff, when-true}
 use Rattle.sets.proofs.Items.{has-zero, item_below}
 use Rattle.sets.proofs.Order.{∪-iff, ∖-iff, single_iff}
 use Rattle.model.specs.Hierarchy.{Roles, candidate_count}
@@ -91,7 +91,7 @@ module _ (before : List ℕ) (c counted worklist : ℕ) (ws : List ℕ) (rest : 
   -- the next role, k, is put in at its rank
   module _ (k q x y : ℕ) (there : So (has rest k)) (small : k < 128) (few : c ≤ 128)
       (tells : (q ≤ c) × ((st : State) → Limits st → candidate_count (roles_of st) ≡ c → Prepared (roles_of st) ws → q ≡ redundancy (roles_of st) counted k))
-      (ex : x ≡ entry ws ranks_start q) (ey : y ≡ (if ltb k 128 then x ∪ single k else x)) (by : y < 2 ^ 128) where
+      (ex : x ≡ entry ws ranks_start q) (ey : y ≡ (when ltb k 128 then x ∪ single k else x)) (by : y < 2 ^ 128) where
     abbrev next : List ℕ
     next = put_at ws (ranks_start + 2 * q) (words_of 2 y)
 
@@ -99,7 +99,7 @@ module _ (before : List ℕ) (c counted worklist : ℕ) (ws : List ℕ) (rest : 
     put j i =
         let size = inv.size in
         let l = tells.0 in
-        let e : y ≡ entry ws ranks_start q ∪ single k = ey ∙ if-true (ltb k 128) (x ∪ single k) x ((ltb_iff k 128).1 small) ∙ ap (λ (z : ℕ). z ∪ single k) ex in
+        let e : y ≡ entry ws ranks_start q ∪ single k = ey ∙ when-true (ltb k 128) (x ∪ single k) x ((ltb_iff k 128).1 small) ∙ ap (λ (z : ℕ). z ∪ single k) ex in
         let same : entry next ranks_start q ≡ entry ws ranks_start q ∪ single k = stored_back ws (ranks_start + 2 * q) 2 y (omega arith) by ∙ e in
         let other : j ≢ q → entry next ranks_start j ≡ entry ws ranks_start j =
         λ d.

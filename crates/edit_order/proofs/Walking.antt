@@ -11,9 +11,9 @@ use lib.Count.{ones}
 use lib.Dec.{ltb}
 use lib.ListN.{length}
 use borrow.Author.Tests.{lt-ltb, le-ltb}
-use Rattle.sets.specs.Truth.{if◌then◌else◌}
+use Rattle.sets.specs.Truth.{when◌then◌else◌}
 use Rattle.sets.specs.Sets.{has, ◌∩◌, ◌∖◌, subset, collect}
-use Rattle.sets.proofs.Truth.{by_test, either, So-not, if-true, if-false}
+use Rattle.sets.proofs.Truth.{by_test, either, So-not, when-true, when-false}
 use Rattle.sets.proofs.Items.{has-zero, item_below}
 use Rattle.sets.proofs.Order.{∩-iff, ∩-lt, ∖-iff, subset_refl, collect_iff, collect_lt}
 use Rattle.sets.proofs.Counts.{ones_some, ones-∖, dropped_fewer}
@@ -31,11 +31,11 @@ use Rattle.edit_work.specs.Work.{work_length, down_start, up_start, samples_star
 use Rattle.edit_work.proofs.Sampling.{with_roles_iff}
 
 -- what a test of two numbers picks
-pub if-below : (a b x y : ℕ) → a < b → x ≡ (if ltb a b then x else y)
-if-below a b x y l = sym (if-true (ltb a b) x y (lt-ltb a b l))
+pub if-below : (a b x y : ℕ) → a < b → x ≡ (when ltb a b then x else y)
+if-below a b x y l = sym (when-true (ltb a b) x y (lt-ltb a b l))
 
-pub if-not-below : (a b x y : ℕ) → b ≤ a → y ≡ (if ltb a b then x else y)
-if-not-below a b x y l = sym (if-false (ltb a b) x y (le-ltb a b l))
+pub if-not-below : (a b x y : ℕ) → b ≤ a → y ≡ (when ltb a b then x else y)
+if-not-below a b x y l = sym (when-false (ltb a b) x y (le-ltb a b l))
 
 -- ---- numbers known by what is no more than they
 
@@ -43,7 +43,7 @@ same_number : (m n : ℕ) → ((x : ℕ) → (x ≤ m) ↔ (x ≤ n)) → m ≡ 
 same_number m n f = let a = (f m).0 (le_refl m) in let b = (f n).1 (le_refl n) in omega arith
 
 -- the smaller of two
-smaller_iff : (a b m : ℕ) → m ≡ (if ltb a b then a else b) → (x : ℕ) → (x ≤ m) ↔ ((x ≤ b) × (x ≤ a))
+smaller_iff : (a b m : ℕ) → m ≡ (when ltb a b then a else b) → (x : ℕ) → (x ≤ m) ↔ ((x ≤ b) × (x ≤ a))
 smaller_iff a b m e x =
     either a b (λ l. let d : m ≡ a = e ∙ sym (if-below a b a b l) in (λ h. (omega arith, omega arith), λ h. let y = h.1 in omega arith))
     (λ l. let d : m ≡ b = e ∙ sym (if-not-below a b a b l) in (λ h. (omega arith, omega arith), λ h. let y = h.0 in omega arith))
@@ -104,7 +104,7 @@ pub record HolderAsked (ws : List ℕ) (own m rest g m' : ℕ) : Type 0 where
   pub number : (x : ℕ) → (x ≤ m') ↔ ((x ≤ m) × One ws own x g)
 
 pub asked : (ws : List ℕ) (own m rest g up meet n m' : ℕ) → So (has rest g) → up ≡ entry ws up_start g → meet ≡ own ∩ up → n ≡ ones meet
-    → m' ≡ (if ltb n m then n else m) → HolderAsked ws own m rest g m'
+    → m' ≡ (when ltb n m then n else m) → HolderAsked ws own m rest g m'
 asked ws own m rest g up meet n m' there eu em en e =
     let d : n ≡ ones (own ∩ entry ws up_start g) = en ∙ ap ones (em ∙ ap (λ (y : ℕ). own ∩ y) eu) in
     record { there = there; number = λ x. rw d at (smaller_iff n m m' e x) }
@@ -158,12 +158,12 @@ pub walking_start : (ws : List ℕ) (hs counted b s : ℕ) → Walking ws hs cou
 walking_start ws hs counted b s = record { left = left_start b s (Of ws counted hs) }
 
 -- a role that is counted covers what it covers
-floor_under : (ρ : Roles) (s k floor : ℕ) → k < candidate_count ρ → floor ≡ (if has s k then 1 else 0) → floor ≤ redundancy ρ s k
+floor_under : (ρ : Roles) (s k floor : ℕ) → k < candidate_count ρ → floor ≡ (when has s k then 1 else 0) → floor ≤ redundancy ρ s k
 unfolding coverers
 floor_under ρ s k floor lk e =
     by_test (has s k)
     (λ t.
-    let one : floor ≡ 1 = e ∙ if-true (has s k) 1 0 t in
+    let one : floor ≡ 1 = e ∙ when-true (has s k) 1 0 t in
     (redundancy_iff ρ s k floor).1 (
       omega arith,
       λ u p lu lp g v.
@@ -171,7 +171,7 @@ floor_under ρ s k floor lk e =
           let a = ones_some (coverers ρ u p ∩ s) k ((∩-iff (coverers ρ u p) s k).1 ((collect_iff c (λ k. covers ρ k u p) k).1 (lk, v), t)) in
           omega arith,
     ))
-    (λ t. let none : floor ≡ 0 = e ∙ if-false (has s k) 1 0 t in omega arith)
+    (λ t. let none : floor ≡ 0 = e ∙ when-false (has s k) 1 0 t in omega arith)
 
 -- what is known when the walk begins: hs are the first holders, and ss the samples, that are asked for role k
 pub record WalkBegun (ws : List ℕ) (c k hs ss : ℕ) : Type 0 where
@@ -276,7 +276,7 @@ module _ (ws : List ℕ) (c k hs ss : ℕ) (b : WalkBegun ws c k hs ss) where
           (((held b.given.0 b.given.1 P i).0 asked_for).0, subset_refl (P.found i))))
 
       -- the floor is met: the redundancy is no more than what is found, and no less than the floor
-      pub walking_stop : floor ≡ (if has counted k then 1 else 0) → m' ≤ floor → Found m'
+      pub walking_stop : floor ≡ (when has counted k then 1 else 0) → m' ≤ floor → Found m'
       walking_stop e stop = (
         le_trans told.bound inv.left.bound,
         λ st lim n P.

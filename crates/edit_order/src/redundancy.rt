@@ -3,7 +3,7 @@ ghost use Rattle.std.specs.Prelude.{◌≡◌, ◌^◌, ◌≤◌, ◌<◌, ltb}
 ghost use Rattle.std.specs.Int.Count.{ones};
 ghost use Rattle.sets_128.specs.Held.{set128};
 ghost use Rattle.sets.specs.Sets.{has, ◌∩◌};
-ghost use Rattle.sets.specs.Truth.{if◌then◌else◌};
+ghost use Rattle.sets.specs.Truth.{when◌then◌else◌};
 ghost use Rattle.model.specs.Hierarchy.{Roles, candidate_count};
 ghost use Rattle.model.specs.Machine.{redundancy};
 ghost use Rattle.model.specs.Record.{Limits};
@@ -17,7 +17,7 @@ use sets_128::Set128;
 use tables::load128;
 
 fn smaller(a: usize, b: usize) -> usize
-    ensures { result ≡ (if ltb a b then a else b) }
+    ensures { result ≡ (when ltb a b then a else b) }
 {
     if a < b {
         return a;
@@ -27,7 +27,7 @@ fn smaller(a: usize, b: usize) -> usize
 
 // What the redundancy of k cannot be below: k itself covers each grant that it covers, so it is counted there if it is counted at all.
 fn floor_of(counted: Set128, k: usize) -> usize
-    ensures { result ≡ (if has (set128 counted) k then 1 else 0) }
+    ensures { result ≡ (when has (set128 counted) k then 1 else 0) }
 {
     if counted.contains(k) {
         return 1;

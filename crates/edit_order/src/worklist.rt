@@ -2,7 +2,7 @@
 ghost use Rattle.std.specs.Prelude.{◌≡◌, ◌<◌, length};
 ghost use Rattle.sets_128.specs.Held.{set128};
 ghost use Rattle.sets.specs.Sets.{◌∪◌, single};
-ghost use Rattle.sets.specs.Truth.{if◌then◌else◌};
+ghost use Rattle.sets.specs.Truth.{when◌then◌else◌};
 ghost use Rattle.model.specs.Coverage.{strikables};
 ghost use Rattle.model.specs.Record.{record_length, built, Limits};
 ghost use Rattle.model.specs.State.{State, roles_of};
@@ -16,7 +16,7 @@ use tables::{STANDING, load128};
 // The set with k in it where `strikable` says so.
 fn with_strikable(found: Set128, k: usize, strikable: bool) -> Set128
     requires { k < 128 }
-    ensures { set128 result ≡ (if strikable then set128 found ∪ single k else set128 found) }
+    ensures { set128 result ≡ (when strikable then set128 found ∪ single k else set128 found) }
 {
     if strikable {
         return found.insert(k);

@@ -8,9 +8,9 @@ use native.Mathlib.Numerals.{add-one}
 use native.Mathlib.Omega.{arith}
 use lib.Dec.{eqb, ltb}
 use lib.ListN.{get_or}
-use Rattle.sets.specs.Truth.{if◌then◌else◌}
+use Rattle.sets.specs.Truth.{when◌then◌else◌}
 use Rattle.sets.specs.Sets.{has, ◌∪◌, single}
-use Rattle.sets.proofs.Truth.{by_test, not-So, ltb_iff, eqb_iff, if-true, if-false}
+use Rattle.sets.proofs.Truth.{by_test, not-So, ltb_iff, eqb_iff, when-true, when-false}
 use Rattle.model.specs.Hierarchy.{Roles, candidate_count}
 use Rattle.model.specs.Quality.{Weights, quality}
 use Rattle.model.specs.Machine.{Run, try_restore, review_to, review_passes, reviewed, begin, after_stay, after_restore}
@@ -28,7 +28,7 @@ use Rattle.edit_review.specs.Reviewing.{Stepped}
 module _ (ws : List ℕ) (at : Progress) (w : Weights) (k : ℕ) where
   pub turn_stands : So (has (state_of ws).standing k) → (worklist : ℕ) → run_at ws at worklist ≡ try_restore (roles_of (state_of ws)) w k (run_at ws at worklist)
   unfolding run_at try_restore
-  turn_stands h worklist = sym (if-true (has (state_of ws).standing k) _ _ h)
+  turn_stands h worklist = sym (when-true (has (state_of ws).standing k) _ _ h)
 
   module _ (absent : has (state_of ws).standing k ≡ false) (q : ℕ) (eq : q ≡ quality (roles_of (state_of ws)) w ((state_of ws).standing ∪ single k)) where
     pub turn_restored : q < at.quality → (after : List ℕ) (r : Progress) → state_of after ≡ standing_now (state_of ws) ((state_of ws).standing ∪ single k)
@@ -43,7 +43,7 @@ module _ (ws : List ℕ) (at : Progress) (w : Weights) (k : ℕ) where
         let examined : r.examined ≡ suc at.examined = ee ∙ add-one at.examined in
         let better : So (ltb (quality (roles_of (state_of ws)) w S) at.quality) = (ltb_iff (quality (roles_of (state_of ws)) w S) at.quality).1 (rw eq at l) in
         (λ i. record { standing = now i; worklist = worklist; reference = reference i; changed = changed i; examined = examined i })
-        ∙ sym (if-false (has (state_of ws).standing k) _ _ absent ∙ if-true (ltb (quality (roles_of (state_of ws)) w S) at.quality) _ _ better)
+        ∙ sym (when-false (has (state_of ws).standing k) _ _ absent ∙ when-true (ltb (quality (roles_of (state_of ws)) w S) at.quality) _ _ better)
 
     pub turn_kept : at.quality ≤ q → (after : List ℕ) (r : Progress) → after ≡ ws → r.quality ≡ at.quality → r.changed ≡ at.changed → r.examined ≡ at.examined + 1
         → (worklist : ℕ) → run_at after r worklist ≡ try_restore (roles_of (state_of ws)) w k (run_at ws at worklist)
@@ -54,7 +54,7 @@ module _ (ws : List ℕ) (at : Progress) (w : Weights) (k : ℕ) where
         let t = ltb (quality (roles_of (state_of ws)) w S) at.quality in
         let worse : t ≡ false = not-So t (λ h. let x = (ltb_iff (quality (roles_of (state_of ws)) w S) at.quality).0 h in let z : ⊥ = omega arith in z) in
         (λ i. record { standing = (state_of (es i)).standing; worklist = worklist; reference = er i; changed = ec i; examined = examined i })
-        ∙ sym (if-false (has (state_of ws).standing k) _ _ absent ∙ if-false t _ _ worse)
+        ∙ sym (when-false (has (state_of ws).standing k) _ _ absent ∙ when-false t _ _ worse)
 
 -- how much a turn counts
 turn-counts : (ρ : Roles) (w : Weights) (k : ℕ) (r : Run) → ((try_restore ρ w k r).changed ≤ suc r.changed) × ((try_restore ρ w k r).examined ≤ suc r.examined)
@@ -62,12 +62,12 @@ unfolding try_restore after_restore after_stay
 turn-counts ρ w k r =
     let q = quality ρ w (r.standing ∪ single k) in
     by_test (has r.standing k)
-    (λ h. rw (if-true (has r.standing k) r (if ltb q r.reference then after_restore k q r else after_stay r) h) (omega arith, omega arith))
+    (λ h. rw (when-true (has r.standing k) r (when ltb q r.reference then after_restore k q r else after_stay r) h) (omega arith, omega arith))
     (λ h.
-    rw (if-false (has r.standing k) r (if ltb q r.reference then after_restore k q r else after_stay r) h)
+    rw (when-false (has r.standing k) r (when ltb q r.reference then after_restore k q r else after_stay r) h)
     (by_test (ltb q r.reference)
-    (λ g. rw (if-true (ltb q r.reference) (after_restore k q r) (after_stay r) g) (omega arith, omega arith))
-    (λ g. rw (if-false (ltb q r.reference) (after_restore k q r) (after_stay r) g) (omega arith, omega arith))))
+    (λ g. rw (when-true (ltb q r.reference) (after_restore k q r) (after_stay r) g) (omega arith, omega arith))
+    (λ g. rw (when-false (ltb q r.reference) (after_restore k q r) (after_stay r) g) (omega arith, omega arith))))
 
 -- ---- a pass
 
@@ -99,13 +99,13 @@ pub passes_on : (ρ : Roles) (w : Weights) (fuel : ℕ) (r next : Run) → next 
     → review_passes ρ w (suc fuel) r ≡ review_passes ρ w fuel next
 unfolding review_passes
 passes_on ρ w fuel r next e d =
-    rw (sym e) (if-false (eqb next.changed r.changed) next (review_passes ρ w fuel next) (not-So (eqb next.changed r.changed) (λ h. d ((eqb_iff next.changed r.changed).0 h))))
+    rw (sym e) (when-false (eqb next.changed r.changed) next (review_passes ρ w fuel next) (not-So (eqb next.changed r.changed) (λ h. d ((eqb_iff next.changed r.changed).0 h))))
 
 pub passes_last : (ρ : Roles) (w : Weights) (fuel : ℕ) (r next : Run) → next ≡ review_to ρ w (candidate_count ρ) r → next.changed ≡ r.changed
     → review_passes ρ w (suc fuel) r ≡ next
 unfolding review_passes
 passes_last ρ w fuel r next e d =
-    rw (sym e) (if-true (eqb next.changed r.changed) next (review_passes ρ w fuel next) ((eqb_iff next.changed r.changed).1 d))
+    rw (sym e) (when-true (eqb next.changed r.changed) next (review_passes ρ w fuel next) ((eqb_iff next.changed r.changed).1 d))
 
 pub passes_none : (ρ : Roles) (w : Weights) (r : Run) → review_passes ρ w 0 r ≡ r
 unfolding review_passes

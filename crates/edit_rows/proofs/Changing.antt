@@ -8,9 +8,9 @@ use Prim.Native.Nat.{ℕ, ◌+◌, ◌*◌, ◌^◌, ◌≤◌, ◌<◌}
 use native.Mathlib.Omega.{arith}
 use lib.Dec.{eqb, ltb}
 use lib.ListN.{get_or, take, drop}
-use Rattle.sets.specs.Truth.{if◌then◌else◌}
+use Rattle.sets.specs.Truth.{when◌then◌else◌}
 use Rattle.sets.specs.Sets.{has, ◌∪◌, ◌∖◌, single}
-use Rattle.sets.proofs.Truth.{by_test, eqb_iff, ltb_iff, if-true, if-false}
+use Rattle.sets.proofs.Truth.{by_test, eqb_iff, ltb_iff, when-true, when-false}
 use Rattle.sets.proofs.Order.{collect_iff, ∪-iff, single_iff, single_lt, has_with, with_without, ∪-lt, ∖-lt}
 use Rattle.model.specs.Lists.{set_at}
 use Rattle.model.specs.Hierarchy.{Roles, candidate_count, permission_set, immediately_senior, immediate_juniors, direct_permissions, direct_members, building, RoleRows}
@@ -38,9 +38,9 @@ use Rattle.edit_rows.specs.Neighbours.{Neighbours}
 -- ---- outside of the neighbours nothing differs; R is the standing set with k in it
 
 module _ (ρ : Roles) (R k : ℕ) (o : Ordered ρ R) (stands : So (has R k)) where
-  with_k : (s x : ℕ) → k < 128 → x ≡ (if ltb k 128 then s ∪ single k else s) → (i : ℕ) → So (has s i) ⊎ (i ≡ k) → So (has x i)
+  with_k : (s x : ℕ) → k < 128 → x ≡ (when ltb k 128 then s ∪ single k else s) → (i : ℕ) → So (has s i) ⊎ (i ≡ k) → So (has x i)
   with_k s x small e i h =
-      rw (e ∙ if-true (ltb k 128) (s ∪ single k) s ((ltb_iff k 128).1 small))
+      rw (e ∙ when-true (ltb k 128) (s ∪ single k) s ((ltb_iff k 128).1 small))
       (⊎_elim (λ t. (∪-iff s (single k) i).1 (◌⊎◌.inl t)) (λ d. (∪-iff s (single k) i).1 (◌⊎◌.inr ((single_iff k i).1 (sym d)))) h)
 
   senior_in : (i : ℕ) → So (immediately_senior ρ R i k) → So (has (immediate_seniors ρ R k) i)
@@ -51,8 +51,8 @@ module _ (ρ : Roles) (R k : ℕ) (o : Ordered ρ R) (stands : So (has R k)) whe
   junior_in : (j : ℕ) → So (immediately_senior ρ R k j) → So (has (immediate_juniors ρ R k) j)
   junior_in j h = (junior_iff ρ R k j).1 (stands_below ρ R o j (senior_stands ρ R o k j ((immediate_iff ρ R k j).0 h).0).1, h)
 
-  module _ (s x t y : ℕ) (small : k < 128) (es : s ≡ immediate_seniors ρ R k) (ex : x ≡ (if ltb k 128 then s ∪ single k else s)) (et : t ≡ immediate_juniors ρ R k)
-      (ey : y ≡ (if ltb k 128 then t ∪ single k else t)) where
+  module _ (s x t y : ℕ) (small : k < 128) (es : s ≡ immediate_seniors ρ R k) (ex : x ≡ (when ltb k 128 then s ∪ single k else s)) (et : t ≡ immediate_juniors ρ R k)
+      (ey : y ≡ (when ltb k 128 then t ∪ single k else t)) where
     upper_out : (i : ℕ) → (So (has x i) → ⊥) → (i ≢ k) × (So (immediately_senior ρ R i k) → ⊥)
     upper_out i d = (λ e. d (with_k s x small ex i (◌⊎◌.inr e)), λ h. d (with_k s x small ex i (◌⊎◌.inl (rw es (senior_in i h)))))
 
@@ -73,10 +73,10 @@ module _ (ρ : Roles) (R k : ℕ) (o : Ordered ρ R) (stands : So (has R k)) whe
         record { juniors = λ i d. sym (a.juniors i d); permissions = λ i d. sym (a.permissions i d); members = λ j d. sym (a.members j d) }
 
   -- the same where the direct members of its juniors are left alone because it has none of its own
-  pub differ_struck : (s x t z y : ℕ) → k < 128 → s ≡ immediate_seniors ρ R k → x ≡ (if ltb k 128 then s ∪ single k else s) → t ≡ immediate_juniors ρ R k
-      → z ≡ (if eqb (direct_members ρ R k) 0 then 0 else t) → y ≡ (if ltb k 128 then z ∪ single k else z) → Differ ρ R (R ∖ single k) x y
+  pub differ_struck : (s x t z y : ℕ) → k < 128 → s ≡ immediate_seniors ρ R k → x ≡ (when ltb k 128 then s ∪ single k else s) → t ≡ immediate_juniors ρ R k
+      → z ≡ (when eqb (direct_members ρ R k) 0 then 0 else t) → y ≡ (when ltb k 128 then z ∪ single k else z) → Differ ρ R (R ∖ single k) x y
   differ_struck s x t z y small es ex et ez ey =
-      let full = differ_out s x t (t ∪ single k) small es ex et (sym (if-true (ltb k 128) (t ∪ single k) t ((ltb_iff k 128).1 small))) in
+      let full = differ_out s x t (t ∪ single k) small es ex et (sym (when-true (ltb k 128) (t ∪ single k) t ((ltb_iff k 128).1 small))) in
       record {
         juniors = full.juniors;
         permissions = full.permissions;
@@ -84,7 +84,7 @@ module _ (ρ : Roles) (R k : ℕ) (o : Ordered ρ R) (stands : So (has R k)) whe
             by_test (eqb (direct_members ρ R k) 0)
             (λ h. sym (members_kept ρ R o k ((eqb_iff (direct_members ρ R k) 0).0 h) j (λ e. d (with_k z y small ey j (◌⊎◌.inr e)))))
             (λ h.
-            let same : z ≡ t = ez ∙ if-false (eqb (direct_members ρ R k) 0) 0 t h in
+            let same : z ≡ t = ez ∙ when-false (eqb (direct_members ρ R k) 0) 0 t h in
             full.members j
             (λ b. d (with_k z y small ey j (⊎_elim (λ q. ◌⊎◌.inl (rw same q)) (λ q. ◌⊎◌.inr (sym ((single_iff k j).0 q))) ((∪-iff t (single k) j).0 b)))));
       }
@@ -122,9 +122,9 @@ module _ (st : State) (lim : Limits st) (ws : List ℕ) (e : ws ≡ built st) wh
 
 -- the standing set with k put into it
 pub put_standing_lem : (st : State) → Limits st → (ws : List ℕ) → ws ≡ built st → (k : ℕ) → k < 128 → (r R : ℕ) → r ≡ set_at 2 ws 4
-    → R ≡ (if ltb k 128 then r ∪ single k else r) → R ≡ st.standing ∪ single k
+    → R ≡ (when ltb k 128 then r ∪ single k else r) → R ≡ st.standing ∪ single k
 put_standing_lem st lim ws e k small r R er e_r =
-    e_r ∙ if-true (ltb k 128) (r ∪ single k) r ((ltb_iff k 128).1 small) ∙ ap (λ (z : ℕ). z ∪ single k) (er ∙ standing_read st lim ws e)
+    e_r ∙ when-true (ltb k 128) (r ∪ single k) r ((ltb_iff k 128).1 small) ∙ ap (λ (z : ℕ). z ∪ single k) (er ∙ standing_read st lim ws e)
 
 -- ---- the standing set, the upper rows, the lower rows
 
@@ -152,8 +152,8 @@ changed R x y ws index seniors first second seniors' third ef uppers lowers st r
 -- ---- the two changes
 
 module _ (st : State) (ws index seniors after seniors' : List ℕ) (ready : Ready st ws index seniors) (k : ℕ) (small : k < 128) where
-  pub taken_at_lem : (r R s x t z y : ℕ) → r ≡ set_at 2 ws 4 → R ≡ r ∖ single k → x ≡ (if ltb k 128 then s ∪ single k else s)
-      → z ≡ (if eqb (set_at 2 ws (members_start + 2 * k)) 0 then 0 else t) → y ≡ (if ltb k 128 then z ∪ single k else z)
+  pub taken_at_lem : (r R s x t z y : ℕ) → r ≡ set_at 2 ws 4 → R ≡ r ∖ single k → x ≡ (when ltb k 128 then s ∪ single k else s)
+      → z ≡ (when eqb (set_at 2 ws (members_start + 2 * k)) 0 then 0 else t) → y ≡ (when ltb k 128 then z ∪ single k else z)
       → Changed ws index seniors after seniors' R x y → So (has st.standing k) → Neighbours (roles_of st) st.standing k s t
       → Ready (standing_now st (st.standing ∖ single k)) after index seniors'
   taken_at_lem r R s x t z y er e_r ex ez ey change stands near =
@@ -165,8 +165,8 @@ module _ (st : State) (ws index seniors after seniors' : List ℕ) (ready : Read
       let d = differ_struck ρ Q k (limits_ordered st lim) stands s x t z y small near.seniors ex near.juniors (rw (members_read st lim ws e k small) at ez) ey in
       rw new at (change st ready (rw new (∖-lt (candidate_count ρ) Q (single k) lim.standing_below)) (rw new d))
 
-  pub put_at_lem : (r R s x t y : ℕ) → r ≡ set_at 2 ws 4 → R ≡ (if ltb k 128 then r ∪ single k else r)
-      → x ≡ (if ltb k 128 then s ∪ single k else s) → y ≡ (if ltb k 128 then t ∪ single k else t)
+  pub put_at_lem : (r R s x t y : ℕ) → r ≡ set_at 2 ws 4 → R ≡ (when ltb k 128 then r ∪ single k else r)
+      → x ≡ (when ltb k 128 then s ∪ single k else s) → y ≡ (when ltb k 128 then t ∪ single k else t)
       → Changed ws index seniors after seniors' R x y → k < candidate_count (roles_of st) → has st.standing k ≡ false
       → Neighbours (roles_of st) (st.standing ∪ single k) k s t → Ready (standing_now st (st.standing ∪ single k)) after index seniors'
   put_at_lem r R s x t y er e_r ex ey change lk absent near =
@@ -181,7 +181,7 @@ module _ (st : State) (ws index seniors after seniors' : List ℕ) (ready : Read
 
 -- the neighbours of a role that is put back, found from the index
 module _ (st : State) (lim : Limits st) (ws index : List ℕ) (e : ws ≡ built st) (ix : Indexed (roles_of st) index) (k : ℕ) (small : k < 128)
-    (r R : ℕ) (er : r ≡ set_at 2 ws 4) (e_r : R ≡ (if ltb k 128 then r ∪ single k else r)) (lk : k < candidate_count (roles_of st)) where
+    (r R : ℕ) (er : r ≡ set_at 2 ws 4) (e_r : R ≡ (when ltb k 128 then r ∪ single k else r)) (lk : k < candidate_count (roles_of st)) where
   put_below : R < 2 ^ candidate_count (roles_of st)
   put_below =
       let c = candidate_count (roles_of st) in

@@ -3,7 +3,7 @@ ghost use Rattle.std.specs.Prelude.{◌≡◌, false, ◌+◌, ◌*◌, ◌^◌,
 ghost use Rattle.std.proofs.Math.Bool.{So};
 ghost use Rattle.sets_128.specs.Held.{set128};
 ghost use Rattle.sets.specs.Sets.{has, ◌∪◌, ◌∖◌, single};
-ghost use Rattle.sets.specs.Truth.{if◌then◌else◌};
+ghost use Rattle.sets.specs.Truth.{when◌then◌else◌};
 ghost use Rattle.model.specs.Lists.{set_at};
 ghost use Rattle.model.specs.Hierarchy.{candidate_count};
 ghost use Rattle.model.specs.Record.{record_length, members_start};
@@ -44,7 +44,7 @@ fn change_standing(
 fn juniors_to_rewrite(rec: &[u64], k: usize, juniors: Set128) -> Set128
     requires rec_len { length rec.now ≡ record_length }
     requires k_bound { k < 128 }
-    ensures { set128 result ≡ (if eqb (set_at 2 rec.now (members_start + 2 * k)) 0 then 0 else set128 juniors) }
+    ensures { set128 result ≡ (when eqb (set_at 2 rec.now (members_start + 2 * k)) 0 then 0 else set128 juniors) }
 {
     if load128(rec, MEMBERS + 2 * k).is_empty() {
         return Set128::empty();

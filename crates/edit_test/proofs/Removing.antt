@@ -6,9 +6,9 @@ use mathlib.Core.List.{List}
 use Prim.Native.Nat.{ℕ, ◌+◌, ◌*◌, ◌^◌, ◌<◌}
 use native.Mathlib.Nat.{lt_of_lt_of_le}
 use lib.Dec.{ltb}
-use Rattle.sets.specs.Truth.{if◌then◌else◌}
+use Rattle.sets.specs.Truth.{when◌then◌else◌}
 use Rattle.sets.specs.Sets.{has, ◌∖◌, single}
-use Rattle.sets.proofs.Truth.{ltb_iff, if-true}
+use Rattle.sets.proofs.Truth.{ltb_iff, when-true}
 use Rattle.model.specs.Lists.{set_at}
 use Rattle.model.specs.Hierarchy.{Roles, direct_members, direct_permissions}
 use Rattle.model.specs.Coverage.{strikable}
@@ -40,7 +40,7 @@ module _ (st : State) (ws : List ℕ) (lim : Limits st) (e : ws ≡ built st) wh
   permissions_told k ps small ep = ep ∙ ap (λ (x : List ℕ). set_at 4 x (permissions_start + 4 * k)) e ∙ read_permissions_of st lim k small
 
   -- over a role's direct members and permissions it says whether the role is strikable
-  pub told_strikable : (index : List ℕ) (k x us ps : ℕ) (t : Bool) → k < 128 → x ≡ (if ltb k 128 then single k else 0)
+  pub told_strikable : (index : List ℕ) (k x us ps : ℕ) (t : Bool) → k < 128 → x ≡ (when ltb k 128 then single k else 0)
       → us ≡ set_at 2 ws (members_start + 2 * k) → ps ≡ set_at 4 ws (permissions_start + 4 * k)
       → ((ρ : Roles) → Asked ρ ws index ps → us < 2 ^ ρ.users → t ≡ grants_covered ρ (set_at 2 ws 4 ∖ x) us ps)
       → Indexed (roles_of st) index → HoldersFor (roles_of st) (direct_permissions (roles_of st) st.standing k) index → So (has st.standing k)
@@ -51,7 +51,7 @@ module _ (st : State) (ws : List ℕ) (lim : Limits st) (e : ws ≡ built st) wh
       let Q = st.standing in
       let o = limits_ordered st lim in
       let now-Q : set_at 2 ws 4 ≡ Q = ap (λ (l : List ℕ). set_at 2 l 4) e ∙ read_standing st lim in
-      let now-x : x ≡ single k = ex ∙ if-true (ltb k 128) (single k) 0 ((ltb_iff k 128).1 small) in
+      let now-x : x ≡ single k = ex ∙ when-true (ltb k 128) (single k) 0 ((ltb_iff k 128).1 small) in
       let now-us : us ≡ direct_members ρ Q k = eu ∙ ap (λ (l : List ℕ). set_at 2 l (members_start + 2 * k)) e ∙ read_members_of st lim k small in
       let now-ps = permissions_told k ps small ep in
       let asks = asked index ps (rw now-ps (direct_permissions_lt ρ Q k)) ix (rw now-ps held) in

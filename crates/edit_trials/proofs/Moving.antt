@@ -8,7 +8,7 @@ use native.Mathlib.Omega.{arith}
 use lib.Count.{ones}
 use lib.Dec.{ltb}
 use lib.ListN.{take, drop}
-use Rattle.sets.specs.Truth.{if◌then◌else◌}
+use Rattle.sets.specs.Truth.{when◌then◌else◌}
 use Rattle.sets.specs.Sets.{has, ◌∩◌, ◌∪◌, ◌∖◌, single}
 use Rattle.sets.proofs.Order.{∪-lt, single_lt, collect_lt, has_with, with_without}
 use Rattle.model.specs.Lists.{set_at}
@@ -94,7 +94,7 @@ module _ (st : State) (ws index : List ℕ) (k : ℕ) (given : Restorable st ws 
 
   -- ---- the role's neighbours and what it brings, found for the standing set with it
 
-  module _ (r R : ℕ) (er : r ≡ set_at 2 ws 4) (e_r : R ≡ (if ltb k 128 then r ∪ single k else r)) where
+  module _ (r R : ℕ) (er : r ≡ set_at 2 ws 4) (e_r : R ≡ (when ltb k 128 then r ∪ single k else r)) where
     same : R ≡ st.standing ∪ single k
     same = put_standing_lem st given.limits ws given.afresh k (small k given.candidate) r R er e_r
 

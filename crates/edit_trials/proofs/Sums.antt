@@ -6,9 +6,9 @@ use mathlib.Core.Logic.{◌≢◌}
 use Prim.Native.Nat.{ℕ, zero, suc, ◌+◌, ◌^◌, ◌≤◌, ◌<◌}
 use native.Mathlib.Omega.{arith}
 use lib.Count.{ones}
-use Rattle.sets.specs.Truth.{total, if◌then◌else◌}
+use Rattle.sets.specs.Truth.{total, when◌then◌else◌}
 use Rattle.sets.specs.Sets.{has, ◌∖◌, single}
-use Rattle.sets.proofs.Truth.{by_test, same_test, So-not, not-So, either, equal_or, total_same, if-true, if-false}
+use Rattle.sets.proofs.Truth.{by_test, same_test, So-not, not-So, either, equal_or, total_same, when-true, when-false}
 use Rattle.sets.proofs.Items.{has-zero, has_above, item_below, item_of, empty_of}
 use Rattle.sets.proofs.Order.{∖-iff, ∖-lt, single_iff}
 use Rattle.sets.proofs.Counts.{total-suc, total_add, total-≤, total-zero, total_except, ones_none, ones-zero, ones_without}
@@ -17,20 +17,20 @@ use Rattle.edit_trials.specs.Trying.{over}
 pub over_none : (n s : ℕ) (f : ℕ → ℕ) → s ≡ 0 → over n s f ≡ 0
 unfolding over
 over_none n s f e =
-    total-zero n (λ i. if has s i then f i else 0) (λ i l. if-false (has s i) (f i) 0 (rw e (has-zero i)))
+    total-zero n (λ i. when has s i then f i else 0) (λ i l. when-false (has s i) (f i) 0 (rw e (has-zero i)))
 
 -- one item taken out of the set
 pub over_more : (n s k : ℕ) (f : ℕ → ℕ) → k < n → So (has s k) → over n s f ≡ f k + over n (s ∖ single k) f
 unfolding over
 over_more n s k f lk h =
-    let a : ℕ → ℕ = λ i. if has s i then f i else 0 in
-    let z : ℕ → ℕ = λ i. if has (s ∖ single k) i then f i else 0 in
+    let a : ℕ → ℕ = λ i. when has s i then f i else 0 in
+    let z : ℕ → ℕ = λ i. when has (s ∖ single k) i then f i else 0 in
     let e = total_except n k a z lk
     (λ i l d.
-    ap (λ (t : Bool). if t then f i else 0)
+    ap (λ (t : Bool). when t then f i else 0)
     (same_test (has s i) (has (s ∖ single k) i) (λ x. (∖-iff s (single k) i).1 (x, λ y. d (sym ((single_iff k i).0 y)))) (λ x. ((∖-iff s (single k) i).0 x).0))) in
-    let here : a k ≡ f k = if-true (has s k) (f k) 0 h in
-    let gone : z k ≡ 0 = if-false (has (s ∖ single k) k) (f k) 0 (not-So (has (s ∖ single k) k) (λ x. ((∖-iff s (single k) k).0 x).1 ((single_iff k k).1 refl))) in
+    let here : a k ≡ f k = when-true (has s k) (f k) 0 h in
+    let gone : z k ≡ 0 = when-false (has (s ∖ single k) k) (f k) 0 (not-So (has (s ∖ single k) k) (λ x. ((∖-iff s (single k) k).0 x).1 ((single_iff k k).1 refl))) in
     let w : total n a + z k ≡ total n z + a k = e in
     omega arith
 
@@ -41,19 +41,19 @@ over_wide zero n s f l b = let e : n ≡ 0 = omega arith in rw e refl
 over_wide (suc m) n s f l b =
     either m n (λ h. let e : n ≡ suc m = omega arith in rw e refl)
     (λ h.
-    let z = if-false (has s m) (f m) 0 (has_above n s m b h) in
-    let t = total-suc m (λ i. if has s i then f i else 0) in
-    let r : total m (λ i. if has s i then f i else 0) ≡ total n (λ i. if has s i then f i else 0) = over_wide m n s f h b in
+    let z = when-false (has s m) (f m) 0 (has_above n s m b h) in
+    let t = total-suc m (λ i. when has s i then f i else 0) in
+    let r : total m (λ i. when has s i then f i else 0) ≡ total n (λ i. when has s i then f i else 0) = over_wide m n s f h b in
     omega arith)
 
 -- two sums that agree at the items of s
 pub over-inside : (n s : ℕ) (f g : ℕ → ℕ) → ((i : ℕ) → i < n → So (has s i) → f i ≡ g i) → over n s f ≡ over n s g
 unfolding over
 over-inside n s f g same =
-    total_same n (λ i. if has s i then f i else 0) (λ i. if has s i then g i else 0)
+    total_same n (λ i. when has s i then f i else 0) (λ i. when has s i then g i else 0)
     (λ i l.
-    by_test (has s i) (λ h. let x = if-true (has s i) (f i) 0 h in let y = if-true (has s i) (g i) 0 h in let e = same i l h in omega arith)
-    (λ h. let x = if-false (has s i) (f i) 0 h in let y = if-false (has s i) (g i) 0 h in omega arith))
+    by_test (has s i) (λ h. let x = when-true (has s i) (f i) 0 h in let y = when-true (has s i) (g i) 0 h in let e = same i l h in omega arith)
+    (λ h. let x = when-false (has s i) (f i) 0 h in let y = when-false (has s i) (g i) 0 h in omega arith))
 
 pub over_same : (n s : ℕ) (f g : ℕ → ℕ) → ((i : ℕ) → i < n → f i ≡ g i) → over n s f ≡ over n s g
 over_same n s f g same = over-inside n s f g (λ i l h. same i l)
@@ -82,7 +82,7 @@ over-each (suc m) n s b e =
 pub over_zero : (n s : ℕ) → over n s (λ i. 0) ≡ 0
 unfolding over
 over_zero n s =
-    total-zero n (λ i. if has s i then 0 else 0) (λ i l. by_test (has s i) (λ h. if-true (has s i) 0 0 h) (λ h. if-false (has s i) 0 0 h))
+    total-zero n (λ i. when has s i then 0 else 0) (λ i l. by_test (has s i) (λ h. when-true (has s i) 0 0 h) (λ h. when-false (has s i) 0 0 h))
 
 module _ (n s k y : ℕ) (f g lost : ℕ → ℕ) (lk : k < n) (out : has s k ≡ false) (gone : f k ≡ 0) (new : g k ≡ y)
     (same : (i : ℕ) → i < n → i ≢ k → (So (has s i) → ⊥) → g i ≡ f i) where
@@ -90,26 +90,26 @@ module _ (n s k y : ℕ) (f g lost : ℕ → ℕ) (lk : k < n) (out : has s k �
       → total n g + over n s lost ≡ total n f + over n (single k) (λ i. y) + over n s (λ i. e)
   unfolding over
   came_sum e loses =
-      let a : ℕ → ℕ = λ i. if has s i then lost i else 0 in
-      let z : ℕ → ℕ = λ i. if has (single k) i then y else 0 in
-      let w : ℕ → ℕ = λ i. if has s i then e else 0 in
+      let a : ℕ → ℕ = λ i. when has s i then lost i else 0 in
+      let z : ℕ → ℕ = λ i. when has (single k) i then y else 0 in
+      let w : ℕ → ℕ = λ i. when has s i then e else 0 in
       sym (total_add n g a)
       ∙ total_same n (λ i. g i + a i) (λ i. f i + z i + w i)
       (λ i l.
       equal_or i k
       (λ (d : i ≡ k).
       let none' = rw (sym d) at out in
-      let x = if-false (has s i) (lost i) 0 none' in
-      let v = if-false (has s i) e 0 none' in
-      let u = if-true (has (single k) i) y 0 ((single_iff k i).1 (sym d)) in
+      let x = when-false (has s i) (lost i) 0 none' in
+      let v = when-false (has s i) e 0 none' in
+      let u = when-true (has (single k) i) y 0 ((single_iff k i).1 (sym d)) in
       let p : g i ≡ y = rw (sym d) at new in
       let q : f i ≡ 0 = rw (sym d) at gone in
       omega arith)
       (λ d.
-      let u = if-false (has (single k) i) y 0 (not-So (has (single k) i) (λ t. d (sym ((single_iff k i).0 t)))) in
+      let u = when-false (has (single k) i) y 0 (not-So (has (single k) i) (λ t. d (sym ((single_iff k i).0 t)))) in
       by_test (has s i)
-      (λ h. let x = if-true (has s i) (lost i) 0 h in let v = if-true (has s i) e 0 h in let p = loses i l h in omega arith)
-      (λ h. let x = if-false (has s i) (lost i) 0 h in let v = if-false (has s i) e 0 h in let p = same i l d (So-not h) in omega arith)))
+      (λ h. let x = when-true (has s i) (lost i) 0 h in let v = when-true (has s i) e 0 h in let p = loses i l h in omega arith)
+      (λ h. let x = when-false (has s i) (lost i) 0 h in let v = when-false (has s i) e 0 h in let p = same i l d (So-not h) in omega arith)))
       ∙ total_add n (λ i. f i + z i) w ∙ ap (λ (x : ℕ). x + total n w) (total_add n f z)
 
   pub came_losing : ((i : ℕ) → i < n → So (has s i) → g i + lost i ≡ f i) → total n g + over n s lost ≡ total n f + y
@@ -130,7 +130,7 @@ module _ (n s k y : ℕ) (f g lost : ℕ → ℕ) (lk : k < n) (out : has s k �
 pub over_within : (n s : ℕ) (f lost : ℕ → ℕ) → ((i : ℕ) → i < n → lost i ≤ f i) → over n s lost ≤ total n f
 unfolding over
 over_within n s f lost h =
-    total-≤ n (λ i. if has s i then lost i else 0) f
+    total-≤ n (λ i. when has s i then lost i else 0) f
     (λ i l.
     let p = h i l in
-    by_test (has s i) (λ t. let e = if-true (has s i) (lost i) 0 t in omega arith) (λ t. let e = if-false (has s i) (lost i) 0 t in omega arith))
+    by_test (has s i) (λ t. let e = when-true (has s i) (lost i) 0 t in omega arith) (λ t. let e = when-false (has s i) (lost i) 0 t in omega arith))

@@ -2,7 +2,7 @@
 -- Assumes nothing.
 use Rattle.std.specs.Prelude.{◌≡◌, false, List, ℕ, ◌+◌, ◌*◌, ◌≤◌, ◌<◌, take, drop}
 use Rattle.std.specs.Int.Count.{ones}
-use Rattle.sets.specs.Truth.{total, if◌then◌else◌}
+use Rattle.sets.specs.Truth.{total, when◌then◌else◌}
 use Rattle.sets_128.specs.Held.{set128}
 use Rattle.sets.specs.Sets.{has, ◌∩◌, ◌∖◌, single}
 use Rattle.model.specs.Lists.{set_at}
@@ -25,7 +25,7 @@ use Rattle.tables.specs.Tables.{table128_length, table256_length}
 
 -- the sum of f over the items of s below n
 unfoldable pub over : ℕ → ℕ → (ℕ → ℕ) → ℕ
-over n s f = total n (λ i. if has s i then f i else 0)
+over n s f = total n (λ i. when has s i then f i else 0)
 
 -- how many items the sets of the roles s share with `own`, in a table with w words to a set
 unfoldable pub shared : ℕ → List ℕ → ℕ → ℕ → ℕ

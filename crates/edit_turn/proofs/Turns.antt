@@ -9,10 +9,10 @@ use native.Mathlib.Nat.{mul-le-mul}
 use native.Mathlib.Numerals.{add-one}
 use native.Mathlib.Omega.{arith}
 use lib.Dec.{ltb}
-use Rattle.sets.specs.Truth.{isnt, if◌then◌else◌}
+use Rattle.sets.specs.Truth.{isnt, when◌then◌else◌}
 use Rattle.sets_128.specs.Held.{set128}
 use Rattle.sets.specs.Sets.{has, ◌∖◌, single}
-use Rattle.sets.proofs.Truth.{So-not, not-So, isnt_iff, if-true, if-false}
+use Rattle.sets.proofs.Truth.{So-not, not-So, isnt_iff, when-true, when-false}
 use Rattle.sets.proofs.Items.{item_below}
 use Rattle.sets.proofs.Order.{∖-iff, single_iff}
 use Rattle.model.specs.Hierarchy.{Roles, direct_permissions}
@@ -152,7 +152,7 @@ module _ (ws index seniors : List ℕ) (terms : Terms) (turn : Turn) (k : ℕ) (
         let examined : r.progress.examined ≡ suc turn.progress.examined = ap (λ (x : Progress). x.examined) e ∙ add-one turn.progress.examined in
         stayed r e
         (held ws r refl el (λ i. (e i).quality) (λ i. (e i).changed) examined
-        ∙ sym (if-true (isnt (strikable ρ R k)) _ _ ((isnt_iff (strikable ρ R k)).1 (So-not (sym asked ∙ f)))))
+        ∙ sym (when-true (isnt (strikable ρ R k)) _ _ ((isnt_iff (strikable ρ R k)).1 (So-not (sym asked ∙ f)))))
 
     -- its strike is weighed: q is the quality, and `less` says whether that is within the tolerance
     module _ (able : So t) (trial : Trial) (weighed : Tried (roles_of (state_of ws)) (state_of ws).standing ((state_of ws).standing ∖ single k) k trial) (q : ℕ)
@@ -162,10 +162,10 @@ module _ (ws index seniors : List ℕ) (terms : Terms) (turn : Turn) (k : ℕ) (
       unfolding model.quality
       quality_then = eq ∙ ap (model.weigh (weights_in terms.weights)) weighed.counts
 
-      decided : next ≡ (if less then after_strike k q (run_in ws turn) else after_stay (run_in ws turn))
+      decided : next ≡ (when less then after_strike k q (run_in ws turn) else after_stay (run_in ws turn))
       unfolding run_in run_at take_up_by take_up tolerance_in
       decided =
-          if-false (isnt (strikable ρ R k)) _ _ (not-So (isnt (strikable ρ R k)) (λ h. (isnt_iff (strikable ρ R k)).0 h (sym asked ∙ able)))
+          when-false (isnt (strikable ρ R k)) _ _ (not-So (isnt (strikable ρ R k)) (λ h. (isnt_iff (strikable ρ R k)).0 h (sym asked ∙ able)))
           ∙ rw (el, sym quality_then) refl
 
       pub turn_stayed : less ≡ false → (r : Turn) → r.progress ≡ unstruck turn.progress → set128 r.worklist ≡ set128 turn.worklist
@@ -174,7 +174,7 @@ module _ (ws index seniors : List ℕ) (terms : Terms) (turn : Turn) (k : ℕ) (
       turn_stayed f r e ew =
           let examined : r.progress.examined ≡ suc turn.progress.examined = ap (λ (x : Progress). x.examined) e ∙ add-one turn.progress.examined in
           stayed r e
-          (held ws r refl ew (λ i. (e i).quality) (λ i. (e i).changed) examined ∙ sym (decided ∙ if-false less _ _ f))
+          (held ws r refl ew (λ i. (e i).quality) (λ i. (e i).changed) examined ∙ sym (decided ∙ when-false less _ _ f))
 
       pub turn_struck : So less → q ≤ most_quality → (after seniors' : List ℕ) → Ready (standing_now (state_of ws) ((state_of ws).standing ∖ single k)) after index seniors' → (r : Turn)
           → r.progress ≡ struck turn.progress trial.counts q → set128 r.worklist ≡ set128 turn.worklist ∖ single k
@@ -190,4 +190,4 @@ module _ (ws index seniors : List ℕ) (terms : Terms) (turn : Turn) (k : ℕ) (
           (trial_in_step ws index seniors ready S (strike_below ws index seniors ready k) trial.counts weighed.counts after seniors' made r.progress (λ i. (e i).counts))
           (crew_now ws after S now-state) (rw e small)
           (held after r (ap (λ (st : State). st.standing) now-state ∙ standing_now_lem (state_of ws) S) ew (λ i. (e i).quality) changed examined
-          ∙ sym (decided ∙ if-true less _ _ within))
+          ∙ sym (decided ∙ when-true less _ _ within))

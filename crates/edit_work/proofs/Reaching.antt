@@ -8,9 +8,9 @@ use Prim.Native.Nat.{ℕ, ◌+◌, ◌*◌, ◌≤◌, ◌<◌}
 use native.Mathlib.Omega.{arith}
 use lib.Dec.{ltb}
 use lib.ListN.{length}
-use Rattle.sets.specs.Truth.{if◌then◌else◌}
+use Rattle.sets.specs.Truth.{when◌then◌else◌}
 use Rattle.sets.specs.Sets.{has, ◌∪◌, single, collect}
-use Rattle.sets.proofs.Truth.{So-not, equal_or, ltb_iff, if-true}
+use Rattle.sets.proofs.Truth.{So-not, equal_or, ltb_iff, when-true}
 use Rattle.sets.proofs.Items.{has-zero, same_set}
 use Rattle.sets.proofs.Order.{∪-iff, single_iff, collect_iff}
 use Rattle.model.specs.Lists.{set_at}
@@ -26,9 +26,9 @@ use Rattle.edit_work.specs.Work.{work_length, down_start, entries, holding, UpAn
 -- ---- the first holders
 
 -- one set's lowest item put in; an empty one has none
-pub put_lowest : (r s x k : ℕ) → LowestItem 128 x k → r ≡ (if ltb k 128 then s ∪ single k else s) → (i : ℕ) → So (has r i) ↔ (So (has s i) ⊎ LowestItem 128 x i)
+pub put_lowest : (r s x k : ℕ) → LowestItem 128 x k → r ≡ (when ltb k 128 then s ∪ single k else s) → (i : ℕ) → So (has r i) ↔ (So (has s i) ⊎ LowestItem 128 x i)
 put_lowest r s x k low e i =
-    let d : r ≡ s ∪ single k = e ∙ if-true (ltb k 128) (s ∪ single k) s ((ltb_iff k 128).1 low.small) in
+    let d : r ≡ s ∪ single k = e ∙ when-true (ltb k 128) (s ∪ single k) s ((ltb_iff k 128).1 low.small) in
     let only : LowestItem 128 x i → k ≡ i = λ b. let y = low.least i b.there in let z = b.least k low.there in omega arith in (
       λ t. ⊎_elim (λ y. ◌⊎◌.inl y) (λ y. let z : k ≡ i = (single_iff k i).0 y in ◌⊎◌.inr (rw z at low)) ((∪-iff s (single k) i).0 (rw d at t)),
       λ t. rw d ((∪-iff s (single k) i).1 (⊎_elim (λ y. ◌⊎◌.inl y) (λ y. ◌⊎◌.inr ((single_iff k i).1 (only y))) t)),
@@ -71,8 +71,8 @@ first_found ρ holders m s few em held found =
 -- ---- down and up
 
 -- an entry with its own number
-pub put_self : (low : List ℕ) (k x r : ℕ) → k < 128 → x ≡ set_at 2 low (2 * k) → r ≡ (if ltb k 128 then x ∪ single k else x) → r ≡ set_at 2 low (2 * k) ∪ single k
-put_self low k x r l ex e = e ∙ if-true (ltb k 128) (x ∪ single k) x ((ltb_iff k 128).1 l) ∙ ap (λ (y : ℕ). y ∪ single k) ex
+pub put_self : (low : List ℕ) (k x r : ℕ) → k < 128 → x ≡ set_at 2 low (2 * k) → r ≡ (when ltb k 128 then x ∪ single k else x) → r ≡ set_at 2 low (2 * k) ∪ single k
+put_self low k x r l ex e = e ∙ when-true (ltb k 128) (x ∪ single k) x ((ltb_iff k 128).1 l) ∙ ap (λ (y : ℕ). y ∪ single k) ex
 
 -- a column of the roles down from each are the roles up from one
 up_column : (ρ : Roles) (k : ℕ) (down : List ℕ) → k < candidate_count ρ → HoldsSets 2 (candidate_count ρ) (down_from ρ) down

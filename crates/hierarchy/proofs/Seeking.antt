@@ -7,9 +7,9 @@ use mathlib.Core.List.{List}
 use Prim.Native.Nat.{ℕ, ◌*◌, ◌^◌, ◌<◌}
 use native.Mathlib.Omega.{arith}
 use lib.Dec.{eqb, ltb}
-use Rattle.sets.specs.Truth.{◌and◌, if◌then◌else◌}
+use Rattle.sets.specs.Truth.{◌and◌, when◌then◌else◌}
 use Rattle.sets.specs.Sets.{has, ◌∩◌, ◌∪◌, ◌∖◌, single, collect}
-use Rattle.sets.proofs.Truth.{by_test, So-not, and_iff, eqb_iff, ltb_iff, if-true, if-false, equal_or}
+use Rattle.sets.proofs.Truth.{by_test, So-not, and_iff, eqb_iff, ltb_iff, when-true, when-false, equal_or}
 use Rattle.sets.proofs.Items.{same_set, has-zero, item_of, empty_of}
 use Rattle.sets.proofs.Order.{collect_iff, ∩-iff, ∪-iff, ∖-iff, single_iff, proper_trans}
 use Rattle.model.specs.Lists.{set_at}
@@ -183,7 +183,7 @@ module _ (low : List ℕ) (R k : ℕ) where
     sought_start found rest ef er ρ n l b = rw ef (sorted_start ρ n R b k hk rest er)
 
     pub sought_more : (found rest i under found' rest' : ℕ) → Sought low R k found rest → LowestItem 128 rest i → under ≡ set_at 2 low (2 * i)
-        → found' ≡ (if has under k and eqb (under ∩ found) 0 then found ∪ single i else found) → rest' ≡ rest ∖ single i → Sought low R k found' rest'
+        → found' ≡ (when has under k and eqb (under ∩ found) 0 then found ∪ single i else found) → rest' ≡ rest ∖ single i → Sought low R k found' rest'
     sought_more found rest i under found' rest' inv least eu ef er ρ n l b =
         let s = inv ρ n l b in
         let d : under ≡ lower ρ i = eu ∙ l i (stands ρ n R b i (s.left i least.there)) in
@@ -191,11 +191,11 @@ module _ (low : List ℕ) (R k : ℕ) where
         let both = and_iff (has under k) (eqb (under ∩ found) 0) in
         by_test test
         (λ t.
-        let f : found' ≡ found ∪ single i = ef ∙ if-true test (found ∪ single i) found t in
+        let f : found' ≡ found ∪ single i = ef ∙ when-true test (found ∪ single i) found t in
         let p = both.0 t in
         rw (f, er) (sorted_put ρ n R b k hk found rest i s least (rw d at p.0) (rw d at ((eqb_iff (under ∩ found) 0).0 p.1))))
         (λ t.
-        let f : found' ≡ found = ef ∙ if-false test (found ∪ single i) found t in
+        let f : found' ≡ found = ef ∙ when-false test (found ∪ single i) found t in
         rw (f, er)
         (sorted_pass ρ n R b k hk found rest i s least
         (λ x e. So-not t (both.1 (rw d x, (eqb_iff (under ∩ found) 0).1 (rw d e))))))

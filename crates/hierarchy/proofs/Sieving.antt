@@ -9,9 +9,9 @@ use native.Mathlib.Omega.{arith}
 use lib.Count.{ones}
 use lib.Dec.{eqb, ltb}
 use borrow.Author.Tests.{not-true, not-false}
-use Rattle.sets.specs.Truth.{◌and◌, none, if◌then◌else◌}
+use Rattle.sets.specs.Truth.{◌and◌, none, when◌then◌else◌}
 use Rattle.sets.specs.Sets.{has, ◌∪◌, ◌∖◌, single}
-use Rattle.sets.proofs.Truth.{So-not, and_iff, none_of, none_is, equal_or, eqb_iff, ltb_iff, if-true}
+use Rattle.sets.proofs.Truth.{So-not, and_iff, none_of, none_is, equal_or, eqb_iff, ltb_iff, when-true}
 use Rattle.sets.proofs.Items.{has-zero, item_below, same_set, empty_of}
 use Rattle.sets.proofs.Order.{collect_iff, ∖-iff, ∖-lt, ∪-iff, single_iff, zero-∪, ∪-zero, subset_iff}
 use Rattle.sets.proofs.Counts.{ones_without, ones-subset}
@@ -122,12 +122,12 @@ pub sieved_start : (index : List ℕ) (s found : ℕ) → found ≡ 0 → Sieved
 sieved_start index s found e ρ n h b = (b, sym (ap (λ (x : ℕ). x ∪ maximal ρ s) e ∙ zero-∪ (maximal ρ s)))
 
 pub sieved_more : (index : List ℕ) (s found rest k found' x mid rest' : ℕ) → Sieved index s found rest → HighestItem 128 rest k
-    → found' ≡ (if ltb k 128 then found ∪ single k else found) → x ≡ set_at 2 index (2 * k) → mid ≡ rest ∖ x → rest' ≡ mid ∖ single k
+    → found' ≡ (when ltb k 128 then found ∪ single k else found) → x ≡ set_at 2 index (2 * k) → mid ≡ rest ∖ x → rest' ≡ mid ∖ single k
     → Sieved index s found' rest'
 sieved_more index s found rest k found' x mid rest' inv top ef ex em er ρ n h b =
     let i = inv ρ n h b in
     let lk = item_below (candidate_count ρ) rest k i.0 top.there in
-    let f : found' ≡ found ∪ single k = ef ∙ if-true (ltb k 128) (found ∪ single k) found ((ltb_iff k 128).1 top.small) in
+    let f : found' ≡ found ∪ single k = ef ∙ when-true (ltb k 128) (found ∪ single k) found ((ltb_iff k 128).1 top.small) in
     let r : rest' ≡ (rest ∖ lower ρ k) ∖ single k =
     er ∙ ap (λ (y : ℕ). y ∖ single k) (em ∙ ap (λ (y : ℕ). rest ∖ y) (ex ∙ h k lk)) in (
       rw r (∖-lt (candidate_count ρ) (rest ∖ lower ρ k) (single k) (∖-lt (candidate_count ρ) rest (lower ρ k) i.0)),

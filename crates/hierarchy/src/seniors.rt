@@ -2,7 +2,7 @@
 ghost use Rattle.std.specs.Prelude.{◌≡◌, ◌^◌, ◌<◌, eqb, length};
 ghost use Rattle.sets_128.specs.Held.{set128};
 ghost use Rattle.sets.specs.Sets.{has, ◌∩◌, ◌∪◌, single};
-ghost use Rattle.sets.specs.Truth.{◌and◌, if◌then◌else◌};
+ghost use Rattle.sets.specs.Truth.{◌and◌, when◌then◌else◌};
 ghost use Rattle.model.specs.Hierarchy.{Roles, candidate_count};
 ghost use Rattle.model.specs.Indexes.{lower};
 ghost use Rattle.tables.specs.Tables.{HoldsSets, table128_length};
@@ -15,7 +15,7 @@ use tables::load128;
 // The set with i in it where k is below i, and none of the set is.
 fn with_senior(found: Set128, i: usize, below: Set128, k: usize) -> Set128
     requires { i < 128 }
-    ensures { set128 result ≡ (if has (set128 below) k and eqb (set128 below ∩ set128 found) 0 then set128 found ∪ single i else set128 found) }
+    ensures { set128 result ≡ (when has (set128 below) k and eqb (set128 below ∩ set128 found) 0 then set128 found ∪ single i else set128 found) }
 {
     if below.contains(k) & below.intersection(found).is_empty() {
         return found.insert(i);

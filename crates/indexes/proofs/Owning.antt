@@ -10,9 +10,9 @@ use native.Mathlib.Numerals.{add-one}
 use native.Mathlib.Omega.{arith}
 use lib.Dec.{ltb}
 use lib.ListN.{length, get_or}
-use Rattle.sets.specs.Truth.{if◌then◌else◌, ◌implies◌, all}
+use Rattle.sets.specs.Truth.{when◌then◌else◌, ◌implies◌, all}
 use Rattle.sets.specs.Sets.{has, ◌∩◌, ◌∪◌, ◌∖◌, single, subset, collect}
-use Rattle.sets.proofs.Truth.{by_test, So-not, implies_iff, all_iff, below_suc, equal_or, ltb_iff, if-true}
+use Rattle.sets.proofs.Truth.{by_test, So-not, implies_iff, all_iff, below_suc, equal_or, ltb_iff, when-true}
 use Rattle.sets.proofs.Items.{same_set, has-zero, empty_of}
 use Rattle.sets.proofs.Order.{collect_iff, ∩-iff, ∪-iff, ∖-iff, single_iff, subset_iff, proper_iff}
 use Rattle.model.specs.Lists.{set_at}
@@ -55,11 +55,11 @@ own_more st u low roles users h fact =
 pub own_learnt : (st : State) (crew : List ℕ) (at n : ℕ) (table : List ℕ) (c : ℕ) → Source st crew at n table c → (low : List ℕ) (roles users i e u x roles' users' : ℕ)
     → Owned st i low roles users → length low ≡ 256 → e < 128 → u < 128 → e < c → u < n → permission_set (roles_of st) e ≡ get_or st.rows u 0
     → x ≡ collect e (λ j. subset (set_at 4 table (4 * j)) (set_at 4 table (4 * e))) → x < 2 ^ 128
-    → roles' ≡ (if ltb e 128 then roles ∪ single e else roles) → users' ≡ (if ltb u 128 then users ∪ single u else users)
+    → roles' ≡ (when ltb e 128 then roles ∪ single e else roles) → users' ≡ (when ltb u 128 then users ∪ single u else users)
     → Owned st i (put_at low (2 * e) (words_of 2 x)) roles' users' × So (has roles' e)
 own_learnt st crew at n table c src low roles users i e u x roles' users' h size le lu lc ln own ex small er eu =
-    let more : roles' ≡ roles ∪ single e = er ∙ if-true (ltb e 128) (roles ∪ single e) roles ((ltb_iff e 128).1 le) in
-    let others : users' ≡ users ∪ single u = eu ∙ if-true (ltb u 128) (users ∪ single u) users ((ltb_iff u 128).1 lu) in
+    let more : roles' ≡ roles ∪ single e = er ∙ when-true (ltb e 128) (roles ∪ single e) roles ((ltb_iff e 128).1 le) in
+    let others : users' ≡ users ∪ single u = eu ∙ when-true (ltb u 128) (users ∪ single u) users ((ltb_iff u 128).1 lu) in
     let old : (f : ℕ) → f ≢ e → So (has roles' f) → So (has roles f) =
     λ f d t. ⊎_elim (λ q. q) (λ q. absurd (d (sym ((single_iff e f).0 q)))) ((∪-iff roles (single e) f).0 (rw more at t)) in
     let there : So (has roles' e) = rw more ((∪-iff roles (single e) e).1 (◌⊎◌.inr ((single_iff e e).1 refl))) in (

@@ -10,9 +10,9 @@ use native.Mathlib.Omega.{arith}
 use lib.Dec.{ltb}
 use lib.Pow.{pow_pos}
 use lib.ListN.{length, get_or}
-use Rattle.sets.specs.Truth.{if◌then◌else◌}
+use Rattle.sets.specs.Truth.{when◌then◌else◌}
 use Rattle.sets.specs.Sets.{has, ◌∪◌, single, subset, collect}
-use Rattle.sets.proofs.Truth.{either, ltb_iff, if-true}
+use Rattle.sets.proofs.Truth.{either, ltb_iff, when-true}
 use Rattle.sets.proofs.Items.{same_set}
 use Rattle.sets.proofs.Order.{collect_iff, proper_iff}
 use Rattle.sets.proofs.Words.{word-zero}
@@ -105,13 +105,13 @@ module _ (st : State) (crew : List ℕ) (at n : ℕ) (table : List ℕ) (c : ℕ
           sym (source_set e le) ∙ ap (set_at 4 table) (sym z) ∙ sym (get_d_rows_at c table 0 e le) ∙ found ∙ own
 
       pub own_found : (low : List ℕ) → set_at 2 low (2 * e) ≡ lower (roles_of st) e → (s r : ℕ)
-          → s ≡ set_at 2 low (2 * e) → r ≡ (if ltb e 128 then s ∪ single e else s) → r ≡ roles_of_user (roles_of st) u
+          → s ≡ set_at 2 low (2 * e) → r ≡ (when ltb e 128 then s ∪ single e else s) → r ≡ roles_of_user (roles_of st) u
       unfolding roles_of
       own_found low entry s r es er =
           let ρ = roles_of st in
           let lc : e < candidate_count ρ = rw source_count le in
           let few : e < 128 = lt_of_lt_of_le lc src.limits.candidates_most in
-          er ∙ if-true (ltb e 128) (s ∪ single e) s ((ltb_iff e 128).1 few) ∙ ap (λ (y : ℕ). y ∪ single e) (es ∙ entry)
+          er ∙ when-true (ltb e 128) (s ∪ single e) s ((ltb_iff e 128).1 few) ∙ ap (λ (y : ℕ). y ∪ single e) (es ∙ entry)
           ∙ sym (user_own ρ u e (numbered st src.limits).distinct user_in lc own_role)
 
   -- ---- the indexes

@@ -7,8 +7,8 @@ use mathlib.Core.List.{List}
 use Prim.Native.Nat.{ℕ, ◌*◌}
 use lib.Dec.{eqb, leb}
 use lib.ListN.{length, take, replicate}
-use Rattle.sets.specs.Truth.{isnt, if◌then◌else◌}
-use Rattle.sets.proofs.Truth.{by_test, not-So, So-not, eqb_iff, if-true, if-false}
+use Rattle.sets.specs.Truth.{isnt, when◌then◌else◌}
+use Rattle.sets.proofs.Truth.{by_test, not-So, So-not, eqb_iff, when-true, when-false}
 use Rattle.model.specs.Lists.{rows_at}
 use Rattle.model.specs.Candidates.{candidates}
 use Rattle.model.specs.State.{State, fresh, within_limits, rows_within}
@@ -43,7 +43,7 @@ module _ (n m : ℕ) (crew ws : List ℕ) (full : length ws ≡ record_length) (
     unfolding listed
     crew_refused d =
         let many = mined_many n m crew ws full ok size inside r ws' p d in
-        ap refused_text many.0 ∙ sym (if-false (leb (length (candidates rows)) 128) (roles_text (settled (fresh n m rows))) (refused_text 4) many.1)
+        ap refused_text many.0 ∙ sym (when-false (leb (length (candidates rows)) 128) (roles_text (settled (fresh n m rows))) (refused_text 4) many.1)
 
     crew_fit : r.code ≡ 0 → Fit (fresh n m rows)
     crew_fit z = mined_fit n m crew ws full ok size inside r ws' p z
@@ -51,7 +51,7 @@ module _ (n m : ℕ) (crew ws : List ℕ) (full : length ws ≡ record_length) (
     crew_listed : r.code ≡ 0 → roles_text (settled (fresh n m rows)) ≡ listed n m rows
     unfolding listed
     crew_listed z =
-        sym (if-true (leb (length (candidates rows)) 128) (roles_text (settled (fresh n m rows))) (refused_text 4) (mined_few n m crew ws full ok size inside r ws' p z))
+        sym (when-true (leb (length (candidates rows)) 128) (roles_text (settled (fresh n m rows))) (refused_text 4) (mined_few n m crew ws full ok size inside r ws' p z))
 
     -- eliminated and reviewed: the record holds the settled state
     module _ (ws2 : List ℕ) (z : r.code ≡ 0) (e : ws2 ≡ built (settled (state_of ws'))) where
@@ -80,7 +80,7 @@ module _ (text : List ℕ) (r : CrewRead) (ws : List ℕ) (p : read_result r ws 
   text_refused d =
       let a = read_crew text (replicate 512 0) in
       ap refused_text code
-      ∙ sym (if-false (eqb a.code 0) (listed a.n a.m (rows_at a.n a.words 0)) (refused_text a.code) (not-So (eqb a.code 0) (λ h. d (code ∙ (eqb_iff a.code 0).0 h))))
+      ∙ sym (when-false (eqb a.code 0) (listed a.n a.m (rows_at a.n a.words 0)) (refused_text a.code) (not-So (eqb a.code 0) (λ h. d (code ∙ (eqb_iff a.code 0).0 h))))
 
   pub text_listed : r.code ≡ 0 → listed r.n r.m (rows_at r.n (take (4 * r.n) ws) 0) ≡ listing text
   unfolding listing read_result
@@ -88,7 +88,7 @@ module _ (text : List ℕ) (r : CrewRead) (ws : List ℕ) (p : read_result r ws 
       let a = read_crew text (replicate 512 0) in
       ap (listed r.n r.m) (taken_rows r.n ws)
       ∙ ap (λ (x : ReadReply). listed x.n x.m (rows_at x.n x.words 0)) p
-      ∙ sym (if-true (eqb a.code 0) (listed a.n a.m (rows_at a.n a.words 0)) (refused_text a.code) ((eqb_iff a.code 0).1 (sym code ∙ z)))
+      ∙ sym (when-true (eqb a.code 0) (listed a.n a.m (rows_at a.n a.words 0)) (refused_text a.code) ((eqb_iff a.code 0).1 (sym code ∙ z)))
 
 -- ---- what can be printed
 
@@ -97,8 +97,8 @@ unfolding after_rows read_refused
 rows_code text buffer n m (rows_read rs at) =
     let t = eqb at (length text) in
     let yes : ReadReply = record { code = 0; n = n; m = m; words = laid rs } in
-    by_test t (λ y. ◌⊎◌.inl (ap (λ (x : ReadReply). x.code) (if-true t yes (read_refused 10 buffer) y)))
-    (λ y. ◌⊎◌.inr (◌⊎◌.inr (◌⊎◌.inr (◌⊎◌.inr (ap (λ (x : ReadReply). x.code) (if-false t yes (read_refused 10 buffer) y))))))
+    by_test t (λ y. ◌⊎◌.inl (ap (λ (x : ReadReply). x.code) (when-true t yes (read_refused 10 buffer) y)))
+    (λ y. ◌⊎◌.inr (◌⊎◌.inr (◌⊎◌.inr (◌⊎◌.inr (ap (λ (x : ReadReply). x.code) (when-false t yes (read_refused 10 buffer) y))))))
 rows_code text buffer n m bad_form = ◌⊎◌.inr (◌⊎◌.inr (◌⊎◌.inr (◌⊎◌.inr (refl))))
 rows_code text buffer n m bad_bit = ◌⊎◌.inr (◌⊎◌.inr (◌⊎◌.inl refl))
 
@@ -114,18 +114,18 @@ reader_code text buffer =
     let t1 = isnt (eqb (length buffer) buffer_length) in
     let t2 = isnt (leb (length text) longest_text) in
     let rest = after_header text buffer (header_at text) in
-    let inner = if t2 then read_refused 10 buffer else rest in
-    by_test t1 (λ y. ◌⊎◌.inr (◌⊎◌.inr (◌⊎◌.inl (ap (λ (x : ReadReply). x.code) (if-true t1 (read_refused 3 buffer) inner y)))))
+    let inner = when t2 then read_refused 10 buffer else rest in
+    by_test t1 (λ y. ◌⊎◌.inr (◌⊎◌.inr (◌⊎◌.inl (ap (λ (x : ReadReply). x.code) (when-true t1 (read_refused 3 buffer) inner y)))))
     (λ y.
-    by_test t2 (λ z. ◌⊎◌.inr (◌⊎◌.inr (◌⊎◌.inr (◌⊎◌.inr (ap (λ (x : ReadReply). x.code) (if-false t1 (read_refused 3 buffer) inner y ∙ if-true t2 (read_refused 10 buffer) rest z))))))
-    (λ z. rw (if-false t1 (read_refused 3 buffer) inner y ∙ if-false t2 (read_refused 10 buffer) rest z) (header_code text buffer (header_at text))))
+    by_test t2 (λ z. ◌⊎◌.inr (◌⊎◌.inr (◌⊎◌.inr (◌⊎◌.inr (ap (λ (x : ReadReply). x.code) (when-false t1 (read_refused 3 buffer) inner y ∙ when-true t2 (read_refused 10 buffer) rest z))))))
+    (λ z. rw (when-false t1 (read_refused 3 buffer) inner y ∙ when-false t2 (read_refused 10 buffer) rest z) (header_code text buffer (header_at text))))
 
 listed_forms : (n m : ℕ) (rs : List ℕ) → ((k : ℕ) × Printable k × (listed n m rs ≡ refused_text k)) ⊎ ((st : State) × (listed n m rs ≡ roles_text (settled st)))
 unfolding listed
 listed_forms n m rs =
     let t = leb (length (candidates rs)) 128 in
-    by_test t (λ y. ◌⊎◌.inr (fresh n m rs, if-true t (roles_text (settled (fresh n m rs))) (refused_text 4) y))
-    (λ y. ◌⊎◌.inl (4, ◌⊎◌.inr (◌⊎◌.inr (◌⊎◌.inl refl)), if-false t (roles_text (settled (fresh n m rs))) (refused_text 4) y))
+    by_test t (λ y. ◌⊎◌.inr (fresh n m rs, when-true t (roles_text (settled (fresh n m rs))) (refused_text 4) y))
+    (λ y. ◌⊎◌.inl (4, ◌⊎◌.inr (◌⊎◌.inr (◌⊎◌.inl refl)), when-false t (roles_text (settled (fresh n m rs))) (refused_text 4) y))
 
 -- a listing is the roles of a settled state, or a refusal with 2, 3, 4 or 10
 pub listing_forms : (text : List ℕ)
@@ -135,7 +135,7 @@ listing_forms text =
     let a = read_crew text (replicate 512 0) in
     let t = eqb a.code 0 in
     let yes = listed a.n a.m (rows_at a.n a.words 0) in
-    by_test t (λ y. rw (if-true t yes (refused_text a.code) y) (listed_forms a.n a.m (rows_at a.n a.words 0)))
+    by_test t (λ y. rw (when-true t yes (refused_text a.code) y) (listed_forms a.n a.m (rows_at a.n a.words 0)))
     (λ y.
     ⊎_elim (λ (z : a.code ≡ 0). absurd (So-not y ((eqb_iff a.code 0).1 z)))
-    (λ z. ◌⊎◌.inl (a.code, z, if-false t yes (refused_text a.code) y)) (reader_code text (replicate 512 0)))
+    (λ z. ◌⊎◌.inl (a.code, z, when-false t yes (refused_text a.code) y)) (reader_code text (replicate 512 0)))

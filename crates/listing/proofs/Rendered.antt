@@ -10,9 +10,9 @@ use lib.Count.{ones}
 use lib.ListN.{length, get_or}
 use lib.Pow.{pow_mono}
 use lib.Dec.{ltb}
-use Rattle.sets.specs.Truth.{if◌then◌else◌}
+use Rattle.sets.specs.Truth.{when◌then◌else◌}
 use Rattle.sets.specs.Sets.{has}
-use Rattle.sets.proofs.Truth.{if-true, ltb_iff}
+use Rattle.sets.proofs.Truth.{when-true, ltb_iff}
 use Rattle.model.specs.Lists.{set_at}
 use Rattle.model.specs.Hierarchy.{candidate_count, permission_set, direct_permissions, direct_members, immediate_juniors, building, RoleRows}
 use Rattle.model.specs.Quality.{weights_allowed, quality}
@@ -64,8 +64,8 @@ sound-limited ws h =
     record { full = s.0; users = s.1.users_most; permissions = s.1.permissions_most; candidates = rw c s.1.candidates_most }
 
 -- where the row of a role stands in the record
-row_set : (ws : List ℕ) (k c : ℕ) (s : ℕ) → k < c → get_or ws 2 0 ≡ c → (if ltb k (get_or ws 2 0) then s else 0) ≡ s
-row_set ws k c s l e = if-true (ltb k (get_or ws 2 0)) s 0 ((ltb_iff k (get_or ws 2 0)).1 (rw e l))
+row_set : (ws : List ℕ) (k c : ℕ) (s : ℕ) → k < c → get_or ws 2 0 ≡ c → (when ltb k (get_or ws 2 0) then s else 0) ≡ s
+row_set ws k c s l e = when-true (ltb k (get_or ws 2 0)) s 0 ((ltb_iff k (get_or ws 2 0)).1 (rw e l))
 
 built-line : (st : State) → Limits st → (k : ℕ) → k < candidate_count (roles_of st) → words_line (built st) k ≡ role_line st k
 unfolding words_line role_line role_rows_of building roles_of
@@ -89,7 +89,7 @@ lines_same R f g zero e = refl
 lines_same R f g (suc k) e =
     let a = lines_same R f g k (λ i l. e i (lt_trans l (lt-suc_self k))) in
     let b = e k (lt-suc_self k) in
-    λ i. a i ++ (if has R k then b i else [])
+    λ i. a i ++ (when has R k then b i else [])
 
 held_standing : (ws : List ℕ) → set_at 2 ws 4 ≡ (state_of ws).standing
 unfolding state_of

@@ -2,7 +2,7 @@
 -- Assumes nothing.
 use Rattle.std.specs.Prelude.{◌≡◌, ◌⊎◌, List, [], ◌∷◌, ◌++◌, ℕ, eqb, leb, length, replicate}
 use Rattle.std.specs.Int.Count.{ones}
-use Rattle.sets.specs.Truth.{if◌then◌else◌}
+use Rattle.sets.specs.Truth.{when◌then◌else◌}
 use Rattle.model.specs.Lists.{rows_at}
 use Rattle.model.specs.Candidates.{candidates}
 use Rattle.model.specs.Hierarchy.{candidate_count, permission_set, direct_permissions, direct_members, immediate_juniors}
@@ -45,10 +45,10 @@ roles_text st =
 
 -- of a crew list that was read: more than 128 candidates are refused with 4
 unfoldable pub listed : ℕ → ℕ → List ℕ → List ℕ
-listed n m rows = if leb (length (candidates rows)) 128 then roles_text (settled (fresh n m rows)) else refused_text 4
+listed n m rows = when leb (length (candidates rows)) 128 then roles_text (settled (fresh n m rows)) else refused_text 4
 
 -- of a text
 unfoldable pub listing : List ℕ → List ℕ
 listing text =
     let a = read_crew text (replicate buffer_length 0) in
-    if eqb a.code 0 then listed a.n a.m (rows_at a.n a.words 0) else refused_text a.code
+    when eqb a.code 0 then listed a.n a.m (rows_at a.n a.words 0) else refused_text a.code

@@ -10,7 +10,7 @@ use lib.Dec.{eqb, ltb}
 use lib.ListN.{length, get_or}
 use borrow.Author.Tests.{eq-eqb, ne_eqb, lt-ltb, le-ltb}
 use Rattle.sets.specs.Sets.{◌∩◌}
-use Rattle.sets.proofs.Truth.{either, equal_or, if-true, if-false}
+use Rattle.sets.proofs.Truth.{either, equal_or, when-true, when-false}
 use Rattle.sets.proofs.Order.{∩-self, ∩-assoc}
 use Rattle.model.specs.Candidates.{place, add_row, Listed, Growing, Table}
 use Rattle.model.specs.Lists.{rows_at}
@@ -60,9 +60,9 @@ add_placed r xs g d =
 place_cases : (C : List ℕ → Type 0) (x y : ℕ) (ys : List ℕ) → (x < y → C (x ∷ y ∷ ys)) → C (y ∷ ys) → C (y ∷ place x ys) → C (place x (y ∷ ys))
 unfolding place
 place_cases C x y ys below same above =
-    either x y (λ l. rw (if-true (ltb x y) _ _ (lt-ltb x y l)) (below l))
-    (λ l. rw (if-false (ltb x y) _ _ (le-ltb x y l))
-    (equal_or x y (λ e. rw (if-true (eqb x y) _ _ (eq-eqb x y e)) same) (λ d. rw (if-false (eqb x y) _ _ (ne_eqb x y d)) above)))
+    either x y (λ l. rw (when-true (ltb x y) _ _ (lt-ltb x y l)) (below l))
+    (λ l. rw (when-false (ltb x y) _ _ (le-ltb x y l))
+    (equal_or x y (λ e. rw (when-true (eqb x y) _ _ (eq-eqb x y e)) same) (λ d. rw (when-false (eqb x y) _ _ (ne_eqb x y d)) above)))
 
 -- what stands at place p after x was placed is x, or stood no later before
 pub place-from : (x : ℕ) (xs : List ℕ) (p : ℕ) → p < length (place x xs)

@@ -7,8 +7,8 @@ use mathlib.Core.List.{List}
 use Prim.Native.Nat.{ℕ}
 use lib.Dec.{eqb}
 use lib.ListN.{length}
-use Rattle.sets.specs.Truth.{if◌then◌else◌}
-use Rattle.sets.proofs.Truth.{not-So, equal_or, eqb_iff, if-true, if-false, if-passes, if_stops}
+use Rattle.sets.specs.Truth.{when◌then◌else◌}
+use Rattle.sets.proofs.Truth.{not-So, equal_or, eqb_iff, when-true, when-false, when-passes, when_stops}
 use Rattle.model.specs.Lists.{rows_at}
 use Rattle.model.specs.Candidates.{candidates}
 use Rattle.model.specs.State.{fresh}
@@ -36,11 +36,11 @@ module _ (n m : ℕ) (crew ws : List ℕ) where
 
   pub mine_accepted : no ≡ 0 → mine n m crew ws ≡ record { code = 0; candidates = length (candidates rows); words = built (fresh n m rows) }
   unfolding mine
-  mine_accepted e = if-true (eqb no 0) _ _ (is_zero no e)
+  mine_accepted e = when-true (eqb no 0) _ _ (is_zero no e)
 
   pub mine_refused : no ≢ 0 → mine n m crew ws ≡ record { code = no; candidates = 0; words = ws }
   unfolding mine
-  mine_refused d = if-false (eqb no 0) _ _ (not-zero no d)
+  mine_refused d = when-false (eqb no 0) _ _ (not-zero no d)
 
   pub mine_code : (mine n m crew ws).code ≡ no
   mine_code =
@@ -54,14 +54,14 @@ module _ (ws : List ℕ) (call : Call) where
 
   edit_unfit : found ≢ 0 → edit ws call ≡ record { replied = reply found 0 0; words = ws }
   unfolding edit
-  edit_unfit d = if_stops (eqb found 0) _ _ (not-zero found d)
+  edit_unfit d = when_stops (eqb found 0) _ _ (not-zero found d)
 
   -- on a record that fits, what the machine's step does
   pub edit_fits : found ≡ 0
       → edit ws call
-      ≡ record { replied = (step (state_of ws) call).replied; words = if eqb (step (state_of ws) call).replied.code 0 then built (step (state_of ws) call).state else ws }
+      ≡ record { replied = (step (state_of ws) call).replied; words = when eqb (step (state_of ws) call).replied.code 0 then built (step (state_of ws) call).state else ws }
   unfolding edit
-  edit_fits e = if-passes (eqb found 0) _ _ (is_zero found e)
+  edit_fits e = when-passes (eqb found 0) _ _ (is_zero found e)
 
   abbrev given : ℕ
   given = unfit ws or_else refusal (state_of ws) call
@@ -83,7 +83,7 @@ module _ (ws : List ℕ) (call : Call) where
       let n : given ≡ r = or_else_next found r e in
       let d' : r ≢ 0 = λ z. d (n ∙ z) in
       edit_fits e
-      ∙ rw (step_refused (state_of ws) call d', n) (ap (λ (l : List ℕ). record { replied = reply r 0 0; words = l }) (if-false (eqb r 0) _ _ (not-zero r d'))))
+      ∙ rw (step_refused (state_of ws) call d', n) (ap (λ (l : List ℕ). record { replied = reply r 0 0; words = l }) (when-false (eqb r 0) _ _ (not-zero r d'))))
       (λ d'. edit_unfit d' ∙ ap (λ (x : ℕ). record { replied = reply x 0 0; words = ws }) (sym (or_else_first found r d')))
 
 -- ---- the reading calls
@@ -91,11 +91,11 @@ module _ (ws : List ℕ) (call : Call) where
 module _ (code value : ℕ) where
   pub told_accepted : code ≡ 0 → told code value ≡ record { code = 0; value = value }
   unfolding told
-  told_accepted e = if-true (eqb code 0) _ _ (is_zero code e)
+  told_accepted e = when-true (eqb code 0) _ _ (is_zero code e)
 
   pub told_refused : code ≢ 0 → told code value ≡ record { code = code; value = 0 }
   unfolding told
-  told_refused d = if-false (eqb code 0) _ _ (not-zero code d)
+  told_refused d = when-false (eqb code 0) _ _ (not-zero code d)
 
   pub told_code : (told code value).code ≡ code
   told_code = equal_or code 0 (λ e. ap (λ (r : Told). r.code) (told_accepted e) ∙ sym e) (λ d. ap (λ (r : Told). r.code) (told_refused d))

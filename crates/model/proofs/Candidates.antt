@@ -11,9 +11,9 @@ use lib.Dec.{eqb}
 use lib.ListN.{length, get_or, take, drop, take-append-drop}
 use lib.Seq.{take-suc, take-length}
 use borrow.Author.Tests.{eqb-true, eq-eqb, ne_eqb}
-use Rattle.sets.specs.Truth.{◌and◌, ◌or◌, ◌implies◌, if◌then◌else◌, any, all}
+use Rattle.sets.specs.Truth.{◌and◌, ◌or◌, ◌implies◌, when◌then◌else◌, any, all}
 use Rattle.sets.specs.Sets.{has, ◌∩◌, ◌∖◌, single, subset, proper_subset, collect}
-use Rattle.sets.proofs.Truth.{by_test, or_iff, same_test, not-So, So-not, reflect, equal_or, if-true, if-false}
+use Rattle.sets.proofs.Truth.{by_test, or_iff, same_test, not-So, So-not, reflect, equal_or, when-true, when-false}
 use Rattle.sets.proofs.Items.{has-zero, below_power, same_set, item_below, below_of_items, item_of, has_above}
 use Rattle.sets.proofs.Order.{∩-iff, ∖-iff, ∖-lt, single_iff, subset_iff, subset_refl, subset-≤, proper_iff, proper-<, proper_subset_lem, collect_lt, collect_iff, zero-∩, ∩-comm}
 use Rattle.model.specs.Candidates.{place, admit, admit_meets, add_row, mined_to, candidates, Intersection, Listed, Growing, Table}
@@ -27,7 +27,7 @@ use Rattle.model.proofs.Growing.{Among, listed_at, listed-none, listed-first, li
 admit_cases : (C : List ℕ → Type 0) (x : ℕ) (xs : List ℕ) → (x ≡ 0 → C xs) → (x ≢ 0 → C (place x xs)) → C (admit x xs)
 unfolding admit
 admit_cases C x xs empty other =
-    equal_or x 0 (λ e. rw (if-true (eqb x 0) _ _ (eq-eqb x 0 e)) (empty e)) (λ d. rw (if-false (eqb x 0) _ _ (ne_eqb x 0 d)) (other d))
+    equal_or x 0 (λ e. rw (when-true (eqb x 0) _ _ (eq-eqb x 0 e)) (empty e)) (λ d. rw (when-false (eqb x 0) _ _ (ne_eqb x 0 d)) (other d))
 
 pub admit_empty : (xs : List ℕ) → admit 0 xs ≡ xs
 admit_empty xs = admit_cases (λ l. l ≡ xs) 0 xs (λ e. refl) (λ d. absurd (d refl))
@@ -86,10 +86,10 @@ module _ {table : List ℕ} (r x : ℕ) (g : Growing table) (row : (r ≡ 0) ⊎
       admit-idle g
       (idle_cases r x h ◌⊎◌.inl (λ e. ⊎_elim (λ z. ◌⊎◌.inl (e ∙ z)) (λ l. ◌⊎◌.inr (rw e l)) row) (λ e. ◌⊎◌.inr (rw e set)))
 
-  pub admit_meet : admit (r ∩ x) table ≡ (if idle r x then table else place (r ∩ x) table)
+  pub admit_meet : admit (r ∩ x) table ≡ (when idle r x then table else place (r ∩ x) table)
   admit_meet =
-      by_test (idle r x) (λ t. admit_meet_idle t ∙ sym (if-true _ _ _ t))
-      (λ t. admit-place (r ∩ x) table (λ e. So-not t (idle_empty r x e)) ∙ sym (if-false _ _ _ t))
+      by_test (idle r x) (λ t. admit_meet_idle t ∙ sym (when-true _ _ _ t))
+      (λ t. admit-place (r ∩ x) table (λ e. So-not t (idle_empty r x e)) ∙ sym (when-false _ _ _ t))
 
   pub meets_skip : So (idle r x) → (xs : List ℕ) → admit_meets r (x ∷ xs) table ≡ admit_meets r xs table
   unfolding admit_meets
@@ -435,7 +435,7 @@ module _ (r : ℕ) (xs : List ℕ) where
 
   -- the turn of a loop over the old table
   pub added_step : (i : ℕ) → i < length xs → Growing xs
-      → added_to r xs (suc i) ≡ (if idle r (get_or xs i 0) then added_to r xs i else place (r ∩ get_or xs i 0) (added_to r xs i))
+      → added_to r xs (suc i) ≡ (when idle r (get_or xs i 0) then added_to r xs i else place (r ∩ get_or xs i 0) (added_to r xs i))
   added_step i h g =
       added_suc i h ∙ admit_meet r (get_or xs i 0) (added_growing i g) (added_row i) (added_old i (get_or xs i 0) (listed_at xs i h))
 

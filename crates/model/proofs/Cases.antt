@@ -6,7 +6,7 @@ use mathlib.Core.List.{List, [], ◌∷◌}
 use Prim.Native.Nat.{ℕ}
 use lib.Dec.{eqb}
 use lib.ListN.{length}
-use Rattle.sets.specs.Truth.{◌and◌, isnt, if◌then◌else◌}
+use Rattle.sets.specs.Truth.{◌and◌, isnt, when◌then◌else◌}
 use Rattle.model.specs.Candidates.{candidates}
 use Rattle.model.specs.Hierarchy.{Roles, immediate_juniors, direct_permissions, direct_members}
 use Rattle.model.specs.Quality.{Weights, quality, Tolerance}
@@ -159,5 +159,5 @@ module _ (ws : List ℕ) (whole : length ws ≡ record_length) where
         ∷ []
 
     pub unsound_agrees : So (all_agree unsound_refusals)
-    unfolding edit quality_of may_of told unfit length_refusal soundness_refusal ◌unless◌ ◌or_else◌ ◌and◌ isnt if◌then◌else◌ reply unsound_refusals all_agree
+    unfolding edit quality_of may_of told unfit length_refusal soundness_refusal ◌unless◌ ◌or_else◌ ◌and◌ isnt when◌then◌else◌ reply unsound_refusals all_agree
     unsound_agrees = rw (whole, bad) refl

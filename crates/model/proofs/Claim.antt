@@ -7,9 +7,9 @@ use mathlib.Core.List.{List, [], ◌∷◌, map}
 use Prim.Native.Nat.{ℕ, ◌<◌}
 use lib.Dec.{eqb}
 use lib.ListN.{length, get_or}
-use Rattle.sets.specs.Truth.{if◌then◌else◌}
+use Rattle.sets.specs.Truth.{when◌then◌else◌}
 use Rattle.sets.specs.Sets.{has, ◌∪◌, ◌∖◌, single}
-use Rattle.sets.proofs.Truth.{by_test, So-not, eqb_iff, if-true, if-false}
+use Rattle.sets.proofs.Truth.{by_test, So-not, eqb_iff, when-true, when-false}
 use Rattle.sets.proofs.Order.{with_without}
 use Rattle.model.specs.Lists.{rows_at}
 use Rattle.model.specs.Hierarchy.{candidate_count, building}
@@ -43,7 +43,7 @@ fit_sound st f = built_sound st f.limits f.covers_all
 -- on a sound record a call answers as the machine does, and leaves what building afresh from the machine's state gives
 module _ (ws : List ℕ) (h : So (sound ws)) (call : Call) where
   edit_sound : edit ws call
-      ≡ record { replied = (step (state_of ws) call).replied; words = if eqb (step (state_of ws) call).replied.code 0 then built (step (state_of ws) call).state else ws }
+      ≡ record { replied = (step (state_of ws) call).replied; words = when eqb (step (state_of ws) call).replied.code 0 then built (step (state_of ws) call).state else ws }
   edit_sound = edit_fits ws call ((unfit_iff ws).1 h)
 
   pub edit_replied : (edit ws call).replied ≡ (step (state_of ws) call).replied
@@ -57,10 +57,10 @@ module _ (ws : List ℕ) (h : So (sound ws)) (call : Call) where
       let o = step (state_of ws) call in
       let t = eqb o.replied.code 0 in
       ap (λ (e : Edited). e.words) edit_sound
-      ∙ by_test t (λ b. if-true t (built o.state) ws b)
+      ∙ by_test t (λ b. when-true t (built o.state) ws b)
       (λ b.
       let d : refusal (state_of ws) call ≢ 0 = λ e. So-not b ((eqb_iff o.replied.code 0).1 (step_code (state_of ws) call ∙ e)) in
-      if-false t (built o.state) ws b ∙ sound-built ws h ∙ ap (λ (x : Outcome). built x.state) (sym (step_refused (state_of ws) call d)))
+      when-false t (built o.state) ws b ∙ sound-built ws h ∙ ap (λ (x : Outcome). built x.state) (sym (step_refused (state_of ws) call d)))
 
   pub edit_fit : So (sound (edit ws call).words)
   edit_fit = rw edit_words (fit_sound (step (state_of ws) call).state (step_fit (state_of ws) call (sound_fit ws h)))

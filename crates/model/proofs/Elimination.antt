@@ -8,9 +8,9 @@ use native.Mathlib.Omega.{arith}
 use lib.Dec.{ltb}
 use lib.Count.{ones, ones-le}
 use borrow.Author.Tests.{ltb-false}
-use Rattle.sets.specs.Truth.{isnt, if◌then◌else◌}
+use Rattle.sets.specs.Truth.{isnt, when◌then◌else◌}
 use Rattle.sets.specs.Sets.{has, ◌∖◌, single, subset}
-use Rattle.sets.proofs.Truth.{by_test, So-not, not-So, isnt_iff, ltb_iff, if-true, if-false}
+use Rattle.sets.proofs.Truth.{by_test, So-not, not-So, isnt_iff, ltb_iff, when-true, when-false}
 use Rattle.sets.proofs.Order.{∖-iff, ∖-lt, single_iff, subset_refl, subset_trans, collect_lt}
 use Rattle.sets.proofs.Counts.{ones_without, ones-subset}
 use Rattle.model.specs.Hierarchy.{Roles, candidate_count}
@@ -45,13 +45,13 @@ module _ (ρ : Roles) (w : Weights) (t : Tolerance) where
       let q' = after r.standing k in
       let x = t.denominator * q' in
       let y = t.numerator * r.reference in
-      let rest = if ltb x y then after_strike k q' r else after_stay r in
+      let rest = when ltb x y then after_strike k q' r else after_stay r in
       by_test s
       (λ e.
-      let skip = if-false (isnt s) (after_drop k r) rest (not-So (isnt s) (λ h. (isnt_iff s).0 h e)) in
-      by_test (ltb x y) (λ b. strikes e ((ltb_iff x y).0 b) (skip ∙ if-true (ltb x y) (after_strike k q' r) (after_stay r) b))
-      (λ b. stays e (ltb-false x y b) (skip ∙ if-false (ltb x y) (after_strike k q' r) (after_stay r) b)))
-      (λ e. drops e (if-true (isnt s) (after_drop k r) rest ((isnt_iff s).1 (So-not e))))
+      let skip = when-false (isnt s) (after_drop k r) rest (not-So (isnt s) (λ h. (isnt_iff s).0 h e)) in
+      by_test (ltb x y) (λ b. strikes e ((ltb_iff x y).0 b) (skip ∙ when-true (ltb x y) (after_strike k q' r) (after_stay r) b))
+      (λ b. stays e (ltb-false x y b) (skip ∙ when-false (ltb x y) (after_strike k q' r) (after_stay r) b)))
+      (λ e. drops e (when-true (isnt s) (after_drop k r) rest ((isnt_iff s).1 (So-not e))))
 
   -- ---- what holds all along, from the standing set R on
 

@@ -7,9 +7,9 @@ use mathlib.Core.Logic.{◌↔◌, ⊎_elim}
 use Prim.Native.Nat.{ℕ, ◌≤◌, ◌<◌}
 use native.Mathlib.Nat.{le_trans}
 use lib.Count.{ones}
-use Rattle.sets.specs.Truth.{◌and◌, if◌then◌else◌}
+use Rattle.sets.specs.Truth.{◌and◌, when◌then◌else◌}
 use Rattle.sets.specs.Sets.{has, ◌∩◌, subset, collect}
-use Rattle.sets.proofs.Truth.{by_test, and_iff, any_of, if-true, if-false}
+use Rattle.sets.proofs.Truth.{by_test, and_iff, any_of, when-true, when-false}
 use Rattle.sets.proofs.Items.{same_set}
 use Rattle.sets.proofs.Order.{∩-iff, subset_iff, subset_trans, subset-∩-eq, collect_iff}
 use Rattle.sets.proofs.Counts.{ones-subset}
@@ -41,13 +41,13 @@ redundancy_iff ρ s k x =
     let c = candidate_count ρ in
     let test : ℕ → ℕ → Bool = λ u p. grant ρ u p and covers ρ k u p in
     let number : ℕ → ℕ → ℕ = λ u p. ones (coverers ρ u p ∩ s) in
-    let one : ℕ → ℕ → ℕ = λ u p. if test u p then number u p else c in
+    let one : ℕ → ℕ → ℕ = λ u p. when test u p then number u p else c in
     let user : ℕ → ℕ = λ u. least ρ.permissions (one u) c in (
       λ h.
           let a = (least_iff ρ.users user c x).0 h in (
             a.0,
             λ u p lu lp g v.
-                rw (if-true (test u p) (number u p) c ((and_iff (grant ρ u p) (covers ρ k u p)).1 (g, v))) at (((least_iff ρ.permissions (one u) c x).0 (a.1 u lu)).1 p lp),
+                rw (when-true (test u p) (number u p) c ((and_iff (grant ρ u p) (covers ρ k u p)).1 (g, v))) at (((least_iff ρ.permissions (one u) c x).0 (a.1 u lu)).1 p lp),
           ),
       λ h.
           (least_iff ρ.users user c x).1 (
@@ -57,8 +57,8 @@ redundancy_iff ρ s k x =
                   h.0,
                   λ p lp.
                       by_test (test u p)
-                      (λ t. let a = (and_iff (grant ρ u p) (covers ρ k u p)).0 t in rw (if-true (test u p) (number u p) c t) (h.1 u p lu lp a.0 a.1))
-                      (λ t. rw (if-false (test u p) (number u p) c t) h.0),
+                      (λ t. let a = (and_iff (grant ρ u p) (covers ρ k u p)).0 t in rw (when-true (test u p) (number u p) c t) (h.1 u p lu lp a.0 a.1))
+                      (λ t. rw (when-false (test u p) (number u p) c t) h.0),
                 ),
           ),
     )

@@ -2,7 +2,7 @@
 -- Assumes nothing.
 use Prim.Native.Nat.{ℕ}
 use lib.Count.{ones, ones_in}
-use Rattle.sets.specs.Truth.{◌and◌, ◌or◌, ◌implies◌, isnt, if◌then◌else◌, bit, any, all, none, total}
+use Rattle.sets.specs.Truth.{◌and◌, ◌or◌, ◌implies◌, isnt, when◌then◌else◌, bit, any, all, none, total}
 use Rattle.sets.specs.Sets.{has, ◌∩◌, ◌∪◌, ◌∖◌, single, subset, proper_subset, collect}
 use Rattle.sets.specs.Words.{value, word}
 use Rattle.model.specs.Lists.{tabulate, elems, set_at, rows_at}
@@ -19,7 +19,7 @@ use Rattle.model.specs.Altered.{inside, row_word, concerned}
 use Rattle.model.specs.Calls.{unfit, mining_refusal, mine, edit, told, quality_of, may_of}
 
 unfoldable pub everything : ℕ
-unfolding ones ones_in ◌and◌ ◌or◌ ◌implies◌ isnt if◌then◌else◌ bit any all none total has ◌∩◌ ◌∪◌ ◌∖◌ single subset proper_subset collect value word
+unfolding ones ones_in ◌and◌ ◌or◌ ◌implies◌ isnt when◌then◌else◌ bit any all none total has ◌∩◌ ◌∪◌ ◌∖◌ single subset proper_subset collect value word
     tabulate elems set_at rows_at place admit admit_meets add_row mined_to candidates candidate_count permission_set authorised_users senior
     immediately_senior immediate_juniors direct_of direct_permissions direct_members building link links_but onward follow reached direct_roles roles_reached may
     grant covers covered all_covered spared strikable strikables weights_allowed counted counts weigh quality roles_of standing_now fresh

@@ -10,7 +10,7 @@ use lib.Dec.{eqb, ltb}
 use lib.ListN.{length, get_or, take, drop, length-append, length-drop, get_or-append}
 use lib.Seq.{length-take-le, get_or-take, get_or-drop, get_or_at, get_or-append-add}
 use borrow.Author.Tests.{eq-eqb, ne_eqb, lt-ltb, le-ltb}
-use Rattle.sets.proofs.Truth.{either, equal_or, if-true, if-false}
+use Rattle.sets.proofs.Truth.{either, equal_or, when-true, when-false}
 use Rattle.model.specs.Candidates.{place, Listed, Growing}
 
 -- every member of the first list is one of the second
@@ -113,10 +113,10 @@ place_cases : (C : List ℕ → Type 0) (x y : ℕ) (ys : List ℕ) → (x < y �
     → C (place x (y ∷ ys))
 unfolding place
 place_cases C x y ys below same above =
-    either x y (λ l. rw (if-true (ltb x y) _ _ (lt-ltb x y l)) (below l))
-    (λ l. rw (if-false (ltb x y) _ _ (le-ltb x y l))
-    (equal_or x y (λ e. rw (if-true (eqb x y) _ _ (eq-eqb x y e)) (same e))
-    (λ d. rw (if-false (eqb x y) _ _ (ne_eqb x y d)) (above (omega arith)))))
+    either x y (λ l. rw (when-true (ltb x y) _ _ (lt-ltb x y l)) (below l))
+    (λ l. rw (when-false (ltb x y) _ _ (le-ltb x y l))
+    (equal_or x y (λ e. rw (when-true (eqb x y) _ _ (eq-eqb x y e)) (same e))
+    (λ d. rw (when-false (eqb x y) _ _ (ne_eqb x y d)) (above (omega arith)))))
 
 pub place_new : (x : ℕ) (xs : List ℕ) → Listed (place x xs) x
 unfolding place

@@ -13,7 +13,7 @@ use lib.Arith.{lt_of_le-ne}
 use lib.ListN.{length, get_or}
 use Rattle.sets.specs.Truth.{◌and◌, any, none}
 use Rattle.sets.specs.Sets.{has, ◌∖◌, single}
-use Rattle.sets.proofs.Truth.{by_test, So-not, and_iff, or_iff, eqb_iff, ltb_iff, any_of, any_is, none_of, none_is, either, equal_or, below_suc, if-true, if-false}
+use Rattle.sets.proofs.Truth.{by_test, So-not, and_iff, or_iff, eqb_iff, ltb_iff, any_of, any_is, none_of, none_is, either, equal_or, below_suc, when-true, when-false}
 use Rattle.sets.proofs.Items.{has-zero, item_below, item_of}
 use Rattle.sets.proofs.Order.{∖-iff, ∖-lt, single_iff}
 use Rattle.sets.proofs.Counts.{ones_without, ones-zero, ones_some}
@@ -50,9 +50,9 @@ unfolding first
 first_passes zero f h = absurd (not-suc-le-zero (any_is zero f h).1)
 first_passes (suc n) f h =
     by_test (any n f)
-    (λ t. let r = first_passes n f t in let e = if-true (any n f) (first n f) n t in (rw e (le_step r.0), rw e r.1))
+    (λ t. let r = first_passes n f t in let e = when-true (any n f) (first n f) n t in (rw e (le_step r.0), rw e r.1))
     (λ t.
-    let e = if-false (any n f) (first n f) n t in
+    let e = when-false (any n f) (first n f) n t in
     let w = any_is (suc n) f h in
     (rw e (lt-suc_self n), rw e (below_suc w.0 n w.1 (λ (d : w.0 ≡ n). rw d at w.2) (λ l. absurd (So-not t (any_of n f w.0 l w.2))))))
 
@@ -62,9 +62,9 @@ first-lowest zero f i h t = absurd (not-suc-le-zero h)
 first-lowest (suc n) f i h t =
     below_suc i n h
     (λ (e : i ≡ n).
-    by_test (any n f) (λ a. rw (if-true (any n f) (first n f) n a) (let r = (first_passes n f a).0 in omega arith))
-    (λ a. rw (if-false (any n f) (first n f) n a) (omega arith)))
-    (λ l. rw (if-true (any n f) (first n f) n (any_of n f i l t)) (first-lowest n f i l t))
+    by_test (any n f) (λ a. rw (when-true (any n f) (first n f) n a) (let r = (first_passes n f a).0 in omega arith))
+    (λ a. rw (when-false (any n f) (first n f) n a) (omega arith)))
+    (λ l. rw (when-true (any n f) (first n f) n (any_of n f i l t)) (first-lowest n f i l t))
 
 -- ---- the order
 

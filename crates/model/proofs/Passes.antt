@@ -9,9 +9,9 @@ use native.Mathlib.Nat.{le_refl, le_trans, not-suc-le-zero, add-suc, suc-add, ad
 use native.Mathlib.Omega.{arith}
 use lib.Dec.{eqb}
 use lib.Count.{ones}
-use Rattle.sets.specs.Truth.{if◌then◌else◌}
+use Rattle.sets.specs.Truth.{when◌then◌else◌}
 use Rattle.sets.specs.Sets.{has, ◌∖◌, single}
-use Rattle.sets.proofs.Truth.{So-not, not-So, eqb_iff, equal_or, if-true, if-false}
+use Rattle.sets.proofs.Truth.{So-not, not-So, eqb_iff, equal_or, when-true, when-false}
 use Rattle.sets.proofs.Items.{has-zero, item_below}
 use Rattle.sets.proofs.Order.{∖-iff, ∖-lt, single_iff}
 use Rattle.sets.proofs.Counts.{ones-zero, ones_none}
@@ -126,20 +126,20 @@ module _ (ρ : Roles) (take : ℕ → Run → Run) where
   module _ (fuel : ℕ) (r : Run) where
     pub passes_empty : r.worklist ≡ 0 → passes ρ take (suc fuel) r ≡ r
     unfolding passes
-    passes_empty e = if-true (eqb r.worklist 0) r _ ((eqb_iff r.worklist 0).1 e)
+    passes_empty e = when-true (eqb r.worklist 0) r _ ((eqb_iff r.worklist 0).1 e)
 
     module _ (some : r.worklist ≢ 0) where
-      first_pass : passes ρ take (suc fuel) r ≡ (if eqb (pass ρ take r).changed r.changed then pass ρ take r else passes ρ take fuel (pass ρ take r))
+      first_pass : passes ρ take (suc fuel) r ≡ (when eqb (pass ρ take r).changed r.changed then pass ρ take r else passes ρ take fuel (pass ρ take r))
       unfolding passes
-      first_pass = if-false (eqb r.worklist 0) r _ (not-So (eqb r.worklist 0) (λ h. some ((eqb_iff r.worklist 0).0 h)))
+      first_pass = when-false (eqb r.worklist 0) r _ (not-So (eqb r.worklist 0) (λ h. some ((eqb_iff r.worklist 0).0 h)))
 
       pub passes_last : (pass ρ take r).changed ≡ r.changed → passes ρ take (suc fuel) r ≡ pass ρ take r
-      passes_last e = first_pass ∙ if-true (eqb (pass ρ take r).changed r.changed) _ _ ((eqb_iff (pass ρ take r).changed r.changed).1 e)
+      passes_last e = first_pass ∙ when-true (eqb (pass ρ take r).changed r.changed) _ _ ((eqb_iff (pass ρ take r).changed r.changed).1 e)
 
       pub passes_more : (pass ρ take r).changed ≢ r.changed → passes ρ take (suc fuel) r ≡ passes ρ take fuel (pass ρ take r)
       passes_more d =
           first_pass
-          ∙ if-false (eqb (pass ρ take r).changed r.changed) _ _
+          ∙ when-false (eqb (pass ρ take r).changed r.changed) _ _
           (not-So (eqb (pass ρ take r).changed r.changed) (λ h. d ((eqb_iff (pass ρ take r).changed r.changed).0 h)))
 
     passes-cases {ℓ} : {C : Type ℓ}

@@ -13,13 +13,13 @@ use lib.Pow.{pow_mono, pow_pos}
 use lib.ListN.{length, get_or, get_or-eq_default}
 use lib.Seq.{ext_get_or}
 use borrow.Author.Tests.{lt-ltb, le-ltb}
-use Rattle.sets.specs.Truth.{◌and◌, if◌then◌else◌, all}
+use Rattle.sets.specs.Truth.{◌and◌, when◌then◌else◌, all}
 use Rattle.sets.specs.Sets.{has}
 use Rattle.sets.specs.Words.{word}
 use Rattle.sets.proofs.Items.{digit, has_above}
 use Rattle.sets.proofs.Order.{collect_lt}
 use Rattle.sets.proofs.Words.{word_lt}
-use Rattle.sets.proofs.Truth.{So-not, and_iff, eqb_iff, all_iff, if-true, if-false, either, reflect}
+use Rattle.sets.proofs.Truth.{So-not, and_iff, eqb_iff, all_iff, when-true, when-false, either, reflect}
 use Rattle.model.specs.Lists.{set_at, rows_at}
 use Rattle.model.specs.Hierarchy.{Roles, candidate_count, permission_set, authorised_users, senior, immediately_senior, immediate_juniors, direct_permissions, direct_members, building}
 use Rattle.model.specs.Coverage.{all_covered}
@@ -73,11 +73,11 @@ region2 f start k j h =
     ap₂ (λ (x y : ℕ). word (f x) y) a b
 
 -- past a region's end, and inside it
-skip : (i n a b : ℕ) → n ≤ i → (if ltb i n then a else b) ≡ b
-skip i n a b h = if-false (ltb i n) a b (le-ltb i n h)
+skip : (i n a b : ℕ) → n ≤ i → (when ltb i n then a else b) ≡ b
+skip i n a b h = when-false (ltb i n) a b (le-ltb i n h)
 
-take_it : (i n a b : ℕ) → i < n → (if ltb i n then a else b) ≡ a
-take_it i n a b h = if-true (ltb i n) a b (lt-ltb i n h)
+take_it : (i n a b : ℕ) → i < n → (when ltb i n then a else b) ≡ a
+take_it i n a b h = when-true (ltb i n) a b (lt-ltb i n h)
 
 module _ (st : State) where
   pub word_head : (i : ℕ) → i < 8 → word_at st i ≡ header_word st i
@@ -299,7 +299,7 @@ module _ (st : State) (lim : Limits st) where
       let absent : (k : ℕ) → candidate_count ρ ≤ k → So (has R k) → ⊥ = λ k l h. So-not (has_above (candidate_count ρ) R k lim.standing_below l) h in
       let back : (k w start : ℕ) (f : ℕ → ℕ) → f k < 2 ^ (64 * w) → ((So (has R k) → ⊥) → f k ≡ 0)
       → ((j : ℕ) → k < 128 → j < w → get_or (built st) (start + w * k + j) 0 ≡ word (f k) j)
-      → (if ltb k (get_or (built st) 2 0) then set_at w (built st) (start + w * k) else 0) ≡ f k =
+      → (when ltb k (get_or (built st) 2 0) then set_at w (built st) (start + w * k) else 0) ≡ f k =
       λ k w start f b z h.
       rw read_count
       (either k (candidate_count ρ) (λ l. take_it k (candidate_count ρ) _ _ l ∙ set_at_words w (f k) (built st) (start + w * k) b (λ j lj. h j (small k l) lj))

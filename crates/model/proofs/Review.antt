@@ -9,9 +9,9 @@ use native.Mathlib.Omega.{arith}
 use lib.Dec.{eqb, ltb}
 use lib.Count.{ones, ones-le}
 use borrow.Author.Tests.{ltb-false}
-use Rattle.sets.specs.Truth.{if◌then◌else◌}
+use Rattle.sets.specs.Truth.{when◌then◌else◌}
 use Rattle.sets.specs.Sets.{has, ◌∪◌, single, subset}
-use Rattle.sets.proofs.Truth.{by_test, So-not, eqb_iff, ltb_iff, below_suc, if-true, if-false}
+use Rattle.sets.proofs.Truth.{by_test, So-not, eqb_iff, ltb_iff, below_suc, when-true, when-false}
 use Rattle.sets.proofs.Order.{∪-iff, ∪-lt, single_lt, subset_iff, subset_refl, subset_trans}
 use Rattle.sets.proofs.Counts.{ones_with}
 use Rattle.model.specs.Hierarchy.{Roles, candidate_count}
@@ -38,12 +38,12 @@ module _ (ρ : Roles) (w : Weights) where
   try_one k r stands restores stays =
       let s = has r.standing k in
       let q' = after r.standing k in
-      let rest = if ltb q' r.reference then after_restore k q' r else after_stay r in
-      by_test s (λ e. stands e (if-true s r rest e))
+      let rest = when ltb q' r.reference then after_restore k q' r else after_stay r in
+      by_test s (λ e. stands e (when-true s r rest e))
       (λ e.
-      let skip = if-false s r rest e in
-      by_test (ltb q' r.reference) (λ b. restores e ((ltb_iff q' r.reference).0 b) (skip ∙ if-true (ltb q' r.reference) (after_restore k q' r) (after_stay r) b))
-      (λ b. stays e (ltb-false q' r.reference b) (skip ∙ if-false (ltb q' r.reference) (after_restore k q' r) (after_stay r) b)))
+      let skip = when-false s r rest e in
+      by_test (ltb q' r.reference) (λ b. restores e ((ltb_iff q' r.reference).0 b) (skip ∙ when-true (ltb q' r.reference) (after_restore k q' r) (after_stay r) b))
+      (λ b. stays e (ltb-false q' r.reference b) (skip ∙ when-false (ltb q' r.reference) (after_restore k q' r) (after_stay r) b)))
 
   -- ---- what holds all along, from the standing set R on
 
@@ -145,11 +145,11 @@ module _ (ρ : Roles) (w : Weights) where
       let rest = review_passes ρ w fuel next in
       let g' = to_run R (candidate_count ρ) r (le_refl (candidate_count ρ)) g in
       by_test (eqb next.changed r.changed)
-      (λ d. rw (if-true (eqb next.changed r.changed) next rest d) (g', closed_by_pass R r g ((eqb_iff next.changed r.changed).0 d)))
+      (λ d. rw (when-true (eqb next.changed r.changed) next rest d) (g', closed_by_pass R r g ((eqb_iff next.changed r.changed).0 d)))
       (λ d.
       let x = to_never_fewer (candidate_count ρ) r in
       let y : next.changed ≢ r.changed = λ z. So-not d ((eqb_iff next.changed r.changed).1 z) in
-      rw (if-false (eqb next.changed r.changed) next rest d) (passes_end R fuel next g' (omega arith)))
+      rw (when-false (eqb next.changed r.changed) next rest d) (passes_end R fuel next g' (omega arith)))
 
   -- more fuel changes nothing
   pub passes_fuel : (R fuel : ℕ) (r : Run) → RunFrom R r → candidate_count ρ < fuel + r.changed → review_passes ρ w (suc fuel) r ≡ review_passes ρ w fuel r
@@ -161,13 +161,13 @@ module _ (ρ : Roles) (w : Weights) where
       let more = review_passes ρ w (suc fuel) next in
       let rest = review_passes ρ w fuel next in
       by_test (eqb next.changed r.changed)
-      (λ d. if-true (eqb next.changed r.changed) next more d ∙ sym (if-true (eqb next.changed r.changed) next rest d))
+      (λ d. when-true (eqb next.changed r.changed) next more d ∙ sym (when-true (eqb next.changed r.changed) next rest d))
       (λ d.
       let x = to_never_fewer (candidate_count ρ) r in
       let y : next.changed ≢ r.changed = λ z. So-not d ((eqb_iff next.changed r.changed).1 z) in
-      if-false (eqb next.changed r.changed) next more d
+      when-false (eqb next.changed r.changed) next more d
       ∙ passes_fuel R fuel next (to_run R (candidate_count ρ) r (le_refl (candidate_count ρ)) g) (omega arith)
-      ∙ sym (if-false (eqb next.changed r.changed) next rest d))
+      ∙ sym (when-false (eqb next.changed r.changed) next rest d))
 
   pub passes_examined : (fuel : ℕ) (r : Run) → (review_passes ρ w fuel r).examined ≤ r.examined + fuel * candidate_count ρ
   unfolding review_passes
@@ -178,8 +178,8 @@ module _ (ρ : Roles) (w : Weights) where
       let x = to_examined (candidate_count ρ) r in
       let h = passes_examined fuel next in
       let m = suc-mul fuel (candidate_count ρ) in
-      by_test (eqb next.changed r.changed) (λ d. rw (if-true (eqb next.changed r.changed) next rest d) (omega arith))
-      (λ d. rw (if-false (eqb next.changed r.changed) next rest d) (omega arith))
+      by_test (eqb next.changed r.changed) (λ d. rw (when-true (eqb next.changed r.changed) next rest d) (omega arith))
+      (λ d. rw (when-false (eqb next.changed r.changed) next rest d) (omega arith))
 
   -- ---- the whole review
 

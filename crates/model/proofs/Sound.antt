@@ -8,7 +8,7 @@ use Prim.Native.Nat.{ℕ, ◌+◌, ◌*◌, ◌≤◌, ◌<◌}
 use lib.Dec.{ltb}
 use lib.ListN.{get_or}
 use Rattle.sets.specs.Sets.{has}
-use Rattle.sets.proofs.Truth.{ltb_iff, if-true}
+use Rattle.sets.proofs.Truth.{ltb_iff, when-true}
 use Rattle.model.specs.Lists.{set_at}
 use Rattle.model.specs.Hierarchy.{candidate_count, building}
 use Rattle.model.specs.Chains.{may, Authorised}
@@ -27,15 +27,15 @@ use Rattle.model.proofs.Claim.{sound_fit, words_authorised}
 module _ (ws : List ℕ) (k : ℕ) (l : k < get_or ws 2 0) where
   pub row_juniors : (role_rows_of ws).juniors k ≡ set_at 2 ws (juniors_start + 2 * k)
   unfolding role_rows_of
-  row_juniors = if-true (ltb k (get_or ws 2 0)) (set_at 2 ws (juniors_start + 2 * k)) 0 ((ltb_iff k (get_or ws 2 0)).1 l)
+  row_juniors = when-true (ltb k (get_or ws 2 0)) (set_at 2 ws (juniors_start + 2 * k)) 0 ((ltb_iff k (get_or ws 2 0)).1 l)
 
   pub row_permissions : (role_rows_of ws).permissions k ≡ set_at 4 ws (permissions_start + 4 * k)
   unfolding role_rows_of
-  row_permissions = if-true (ltb k (get_or ws 2 0)) (set_at 4 ws (permissions_start + 4 * k)) 0 ((ltb_iff k (get_or ws 2 0)).1 l)
+  row_permissions = when-true (ltb k (get_or ws 2 0)) (set_at 4 ws (permissions_start + 4 * k)) 0 ((ltb_iff k (get_or ws 2 0)).1 l)
 
   pub row_members : (role_rows_of ws).members k ≡ set_at 2 ws (members_start + 2 * k)
   unfolding role_rows_of
-  row_members = if-true (ltb k (get_or ws 2 0)) (set_at 2 ws (members_start + 2 * k)) 0 ((ltb_iff k (get_or ws 2 0)).1 l)
+  row_members = when-true (ltb k (get_or ws 2 0)) (set_at 2 ws (members_start + 2 * k)) 0 ((ltb_iff k (get_or ws 2 0)).1 l)
 
 -- ---- a sound record
 

@@ -10,7 +10,7 @@ use native.Mathlib.Omega.{arith}
 use lib.Dec.{eqb}
 use lib.ListN.{length, get_or, length-append}
 use Rattle.sets.specs.Sets.{◌∪◌, ◌∖◌, single, collect}
-use Rattle.sets.proofs.Truth.{by_test, So-not, not-So, eqb_iff, if-true, if-false}
+use Rattle.sets.proofs.Truth.{by_test, So-not, not-So, eqb_iff, when-true, when-false}
 use Rattle.sets.proofs.Items.{has-zero}
 use Rattle.sets.proofs.Order.{subset_refl, ∖-lt, ∪-lt, single_lt, collect_lt, collect_iff}
 use Rattle.model.specs.Lists.{rows_at}
@@ -73,11 +73,11 @@ now_same st = refl
 pub step-accepted : (st : State) (call : Call) → refusal st call ≡ 0
     → step st call ≡ record { replied = reply 0 (accepted st call).changed (accepted st call).examined; state = standing_now st (accepted st call).standing }
 unfolding step
-step-accepted st call e = if-true (eqb (refusal st call) 0) _ _ ((eqb_iff (refusal st call) 0).1 e)
+step-accepted st call e = when-true (eqb (refusal st call) 0) _ _ ((eqb_iff (refusal st call) 0).1 e)
 
 pub step_refused : (st : State) (call : Call) → refusal st call ≢ 0 → step st call ≡ record { replied = reply (refusal st call) 0 0; state = st }
 unfolding step
-step_refused st call d = if-false (eqb (refusal st call) 0) _ _ (not-So (eqb (refusal st call) 0) (λ h. d ((eqb_iff (refusal st call) 0).0 h)))
+step_refused st call d = when-false (eqb (refusal st call) 0) _ _ (not-So (eqb (refusal st call) 0) (λ h. d ((eqb_iff (refusal st call) 0).0 h)))
 
 -- which way a step goes is told by its answer
 pub step_code : (st : State) (call : Call) → (step st call).replied.code ≡ refusal st call

@@ -1,7 +1,7 @@
 -- What each outside call answers, and what it leaves in the lent record. A refusal gives its number and zeros, and alters nothing.
 -- Assumes nothing.
 use Rattle.std.specs.Prelude.{List, ℕ, eqb, length}
-use Rattle.sets.specs.Truth.{isnt, if◌then◌else◌, bit}
+use Rattle.sets.specs.Truth.{isnt, when◌then◌else◌, bit}
 use Rattle.model.specs.Lists.{rows_at}
 use Rattle.model.specs.Candidates.{candidates}
 use Rattle.model.specs.Hierarchy.{candidate_count}
@@ -32,7 +32,7 @@ pub record Mined : Type 0 where
 unfoldable pub mine : ℕ → ℕ → List ℕ → List ℕ → Mined
 mine n m crew ws =
     let rows = rows_at n crew 0 in
-    if eqb (mining_refusal n m crew ws) 0 then record { code = 0; candidates = length (candidates rows); words = built (fresh n m rows) }
+    when eqb (mining_refusal n m crew ws) 0 then record { code = 0; candidates = length (candidates rows); words = built (fresh n m rows) }
     else record { code = mining_refusal n m crew ws; candidates = 0; words = ws }
 
 -- ---- the editing calls
@@ -46,8 +46,8 @@ pub record Edited : Type 0 where
 unfoldable pub edit : List ℕ → Call → Edited
 edit ws call =
     let o = step (state_of ws) call in
-    if isnt (eqb (unfit ws) 0) then record { replied = reply (unfit ws) 0 0; words = ws }
-    else record { replied = o.replied; words = if eqb o.replied.code 0 then built o.state else ws }
+    when isnt (eqb (unfit ws) 0) then record { replied = reply (unfit ws) 0 0; words = ws }
+    else record { replied = o.replied; words = when eqb o.replied.code 0 then built o.state else ws }
 
 -- ---- the calls that read
 
@@ -58,7 +58,7 @@ pub record Told : Type 0 where
 
 -- a refusal's number and 0, or 0 and the value
 unfoldable pub told : ℕ → ℕ → Told
-told code value = if eqb code 0 then record { code = 0; value = value } else record { code = code; value = 0 }
+told code value = when eqb code 0 then record { code = 0; value = value } else record { code = code; value = 0 }
 
 -- the quality of the record's own rows
 unfoldable pub quality_of : List ℕ → Weights → Told

@@ -2,17 +2,17 @@
 -- Assumes nothing.
 use Rattle.std.specs.Prelude.{◌≡◌, ◌↔◌, ◌≢◌, List, [], ◌∷◌, ℕ, zero, suc, ◌^◌, ◌<◌, eqb, ltb, length, get_or}
 use Rattle.std.proofs.Math.Bool.{So}
-use Rattle.sets.specs.Truth.{if◌then◌else◌}
+use Rattle.sets.specs.Truth.{when◌then◌else◌}
 use Rattle.sets.specs.Sets.{has, ◌∩◌}
 
 -- x put at its place in a growing list, where it is not there yet
 unfoldable pub place : ℕ → List ℕ → List ℕ
 place x [] = x ∷ []
-place x (y ∷ ys) = if ltb x y then x ∷ y ∷ ys else if eqb x y then y ∷ ys else y ∷ place x ys
+place x (y ∷ ys) = when ltb x y then x ∷ y ∷ ys else when eqb x y then y ∷ ys else y ∷ place x ys
 
 -- the same for a set that may be empty: the empty set is no candidate
 unfoldable pub admit : ℕ → List ℕ → List ℕ
-admit x xs = if eqb x 0 then xs else place x xs
+admit x xs = when eqb x 0 then xs else place x xs
 
 -- the intersections of the row r with each set of the first list, admitted to the second
 unfoldable pub admit_meets : ℕ → List ℕ → List ℕ → List ℕ

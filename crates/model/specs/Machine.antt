@@ -2,7 +2,7 @@
 -- Assumes nothing.
 use Rattle.std.specs.Prelude.{Bool, List, [], ◌∷◌, ℕ, zero, suc, ◌*◌, min, eqb, ltb}
 use Rattle.std.specs.Int.Count.{ones}
-use Rattle.sets.specs.Truth.{◌and◌, ◌or◌, isnt, if◌then◌else◌, any, none}
+use Rattle.sets.specs.Truth.{◌and◌, ◌or◌, isnt, when◌then◌else◌, any, none}
 use Rattle.sets.specs.Sets.{has, ◌∩◌, ◌∪◌, ◌∖◌, single, collect}
 use Rattle.model.specs.Hierarchy.{Roles, candidate_count}
 use Rattle.model.specs.Coverage.{grant, covers, strikable, strikables}
@@ -28,7 +28,7 @@ redundancy ρ s k =
     least ρ.users
     (λ u.
     least ρ.permissions
-    (λ p. if grant ρ u p and covers ρ k u p then ones (coverers ρ u p ∩ s) else candidate_count ρ)
+    (λ p. when grant ρ u p and covers ρ k u p then ones (coverers ρ u p ∩ s) else candidate_count ρ)
     (candidate_count ρ))
     (candidate_count ρ)
 
@@ -39,7 +39,7 @@ before key k j = ltb (key j) (key k) or eqb (key k) (key j) and ltb k j
 -- the lowest index below n that passes f
 unfoldable pub first : ℕ → (ℕ → Bool) → ℕ
 first zero f = 0
-first (suc n) f = if any n f then first n f else n
+first (suc n) f = when any n f then first n f else n
 
 -- the role of the set s that no other of s goes before
 unfoldable pub foremost : ℕ → (ℕ → ℕ) → ℕ → ℕ
@@ -93,8 +93,8 @@ after_stay r =
 unfoldable pub take_up : Roles → Weights → Tolerance → ℕ → Run → Run
 take_up ρ w t k r =
     let q' = quality ρ w (r.standing ∖ single k) in
-    if isnt (strikable ρ r.standing k) then after_drop k r
-    else if ltb (t.denominator * q') (t.numerator * r.reference) then after_strike k q' r
+    when isnt (strikable ρ r.standing k) then after_drop k r
+    else when ltb (t.denominator * q') (t.numerator * r.reference) then after_strike k q' r
     else after_stay r
 
 -- ---- the passes, over any function `take` that takes one role up
@@ -119,7 +119,7 @@ passes ρ take zero r = r
 passes ρ take (suc fuel) r =
     let next = pass ρ take r in
     let rest = passes ρ take fuel next in
-    if eqb r.worklist 0 then r else if eqb next.changed r.changed then next else rest
+    when eqb r.worklist 0 then r else when eqb next.changed r.changed then next else rest
 
 -- a run that begins from R with this worklist: q is the quality of R, and nothing has been taken up
 unfoldable pub begin : Roles → Weights → ℕ → ℕ → Run
@@ -146,7 +146,7 @@ after_restore k q r =
 unfoldable pub try_restore : Roles → Weights → ℕ → Run → Run
 try_restore ρ w k r =
     let q' = quality ρ w (r.standing ∪ single k) in
-    if has r.standing k then r else if ltb q' r.reference then after_restore k q' r else after_stay r
+    when has r.standing k then r else when ltb q' r.reference then after_restore k q' r else after_stay r
 
 -- "A pass takes up the absent candidates by growing number": those below k
 unfoldable pub review_to : Roles → Weights → ℕ → Run → Run
@@ -159,7 +159,7 @@ review_passes ρ w zero r = r
 review_passes ρ w (suc fuel) r =
     let next = review_to ρ w (candidate_count ρ) r in
     let rest = review_passes ρ w fuel next in
-    if eqb next.changed r.changed then next else rest
+    when eqb next.changed r.changed then next else rest
 
 -- Review, from R: it needs no worklist
 unfoldable pub reviewed : Roles → Weights → ℕ → Run
@@ -208,7 +208,7 @@ pub record Outcome : Type 0 where
 unfoldable pub step : State → Call → Outcome
 step st call =
     let r = accepted st call in
-    if eqb (refusal st call) 0 then record { replied = reply 0 r.changed r.examined; state = standing_now st r.standing }
+    when eqb (refusal st call) 0 then record { replied = reply 0 r.changed r.examined; state = standing_now st r.standing }
     else record { replied = reply (refusal st call) 0 0; state = st }
 
 -- ---- a list of calls: the state after it, and the answers

@@ -1,7 +1,7 @@
 -- The record, word by word; building afresh; sound.
 -- Assumes nothing.
 use Rattle.std.specs.Prelude.{◌≡◌, Bool, List, [], ◌∷◌, ℕ, ◌+◌, ◌-◌, ◌*◌, ◌/◌, ◌%◌, ◌^◌, ◌≤◌, ◌<◌, eqb, leb, ltb, length, get_or}
-use Rattle.sets.specs.Truth.{◌and◌, if◌then◌else◌, all}
+use Rattle.sets.specs.Truth.{◌and◌, when◌then◌else◌, all}
 use Rattle.sets.specs.Words.{word}
 use Rattle.model.specs.Lists.{tabulate, set_at, rows_at}
 use Rattle.model.specs.Hierarchy.{RoleRows, candidate_count, permission_set, direct_permissions, direct_members, immediate_juniors}
@@ -41,11 +41,11 @@ region_word w f i = word (f (i / w)) (i % w)
 -- word i of the record built afresh from a state
 unfoldable pub word_at : State → ℕ → ℕ
 word_at st i =
-    if ltb i crew_start then header_word st i
-    else if ltb i sets_start then region_word 4 (λ u. get_or st.rows u 0) (i - crew_start)
-    else if ltb i permissions_start then region_word 4 (permission_set (roles_of st)) (i - sets_start)
-    else if ltb i members_start then region_word 4 (direct_permissions (roles_of st) st.standing) (i - permissions_start)
-    else if ltb i juniors_start then region_word 2 (direct_members (roles_of st) st.standing) (i - members_start)
+    when ltb i crew_start then header_word st i
+    else when ltb i sets_start then region_word 4 (λ u. get_or st.rows u 0) (i - crew_start)
+    else when ltb i permissions_start then region_word 4 (permission_set (roles_of st)) (i - sets_start)
+    else when ltb i members_start then region_word 4 (direct_permissions (roles_of st) st.standing) (i - permissions_start)
+    else when ltb i juniors_start then region_word 2 (direct_members (roles_of st) st.standing) (i - members_start)
     else region_word 2 (immediate_juniors (roles_of st) st.standing) (i - juniors_start)
 
 -- "Building afresh from a crew list and R"
@@ -68,9 +68,9 @@ state_of ws =
 unfoldable pub role_rows_of : List ℕ → RoleRows
 role_rows_of ws =
     record {
-      juniors = λ k. if ltb k (get_or ws 2 0) then set_at 2 ws (juniors_start + 2 * k) else 0;
-      permissions = λ k. if ltb k (get_or ws 2 0) then set_at 4 ws (permissions_start + 4 * k) else 0;
-      members = λ k. if ltb k (get_or ws 2 0) then set_at 2 ws (members_start + 2 * k) else 0;
+      juniors = λ k. when ltb k (get_or ws 2 0) then set_at 2 ws (juniors_start + 2 * k) else 0;
+      permissions = λ k. when ltb k (get_or ws 2 0) then set_at 4 ws (permissions_start + 4 * k) else 0;
+      members = λ k. when ltb k (get_or ws 2 0) then set_at 2 ws (members_start + 2 * k) else 0;
     }
 
 -- a state that keeps the limits, whose standing roles are candidates and cover each crew grant

@@ -10,7 +10,7 @@ use lib.Dec.{eqb}
 use lib.ListN.{length, get_or, set, take, length-set}
 use lib.Seq.{take_all, take-suc-set}
 use Rattle.sets.specs.Truth.{◌and◌}
-use Rattle.sets.proofs.Truth.{So-not, not-So, eqb_iff, if-true, if-false}
+use Rattle.sets.proofs.Truth.{So-not, not-So, eqb_iff, when-true, when-false}
 use Rattle.model.specs.Lists.{rows_at}
 use Rattle.model.specs.Candidates.{candidates}
 use Rattle.model.specs.State.{fresh}
@@ -52,22 +52,22 @@ module _ (ws : List ℕ) (i : ℕ) where
 
   pub call_strike : kind ≡ 0 → call_at ws i ≡ strike (get_or ws (i + 1) 0)
   unfolding call_at
-  call_strike e = if-true (eqb kind 0) _ _ ((eqb_iff kind 0).1 e)
+  call_strike e = when-true (eqb kind 0) _ _ ((eqb_iff kind 0).1 e)
 
   pub call_restore : kind ≢ 0 → kind ≡ 1 → call_at ws i ≡ restore (get_or ws (i + 1) 0)
   unfolding call_at
-  call_restore d e = if-false (eqb kind 0) _ _ (other_kind 0 d) ∙ if-true (eqb kind 1) _ _ ((eqb_iff kind 1).1 e)
+  call_restore d e = when-false (eqb kind 0) _ _ (other_kind 0 d) ∙ when-true (eqb kind 1) _ _ ((eqb_iff kind 1).1 e)
 
   pub call_eliminate : kind ≢ 0 → kind ≢ 1 → kind ≡ 2
       → call_at ws i ≡ eliminate (weights_of (get_or ws (i + 1) 0) (get_or ws (i + 2) 0) (get_or ws (i + 3) 0) (get_or ws (i + 4) 0)) (tolerance_of (get_or ws (i + 5) 0) (get_or ws (i + 6) 0))
   unfolding call_at
   call_eliminate d d' e =
-      if-false (eqb kind 0) _ _ (other_kind 0 d) ∙ if-false (eqb kind 1) _ _ (other_kind 1 d') ∙ if-true (eqb kind 2) _ _ ((eqb_iff kind 2).1 e)
+      when-false (eqb kind 0) _ _ (other_kind 0 d) ∙ when-false (eqb kind 1) _ _ (other_kind 1 d') ∙ when-true (eqb kind 2) _ _ ((eqb_iff kind 2).1 e)
 
   pub call_review : kind ≢ 0 → kind ≢ 1 → kind ≢ 2 → call_at ws i ≡ review (weights_of (get_or ws (i + 1) 0) (get_or ws (i + 2) 0) (get_or ws (i + 3) 0) (get_or ws (i + 4) 0))
   unfolding call_at
   call_review d d' d'' =
-      if-false (eqb kind 0) _ _ (other_kind 0 d) ∙ if-false (eqb kind 1) _ _ (other_kind 1 d') ∙ if-false (eqb kind 2) _ _ (other_kind 2 d'')
+      when-false (eqb kind 0) _ _ (other_kind 0 d) ∙ when-false (eqb kind 1) _ _ (other_kind 1 d') ∙ when-false (eqb kind 2) _ _ (other_kind 2 d'')
 
 -- the answer of each call as an outcome
 module _ (cs : List ℕ) (at : ℕ) (ws after : List ℕ) (r : Outcome) where

@@ -8,8 +8,8 @@ use Prim.Native.Nat.{ℕ, ◌*◌, ◌≤◌, ◌<◌}
 use native.Mathlib.Omega.{arith}
 use lib.Dec.{eqb, leb}
 use lib.ListN.{length, take, drop, replicate, length-replicate}
-use Rattle.sets.specs.Truth.{if◌then◌else◌}
-use Rattle.sets.proofs.Truth.{not-So, eqb_iff, if-true, if-false}
+use Rattle.sets.specs.Truth.{when◌then◌else◌}
+use Rattle.sets.proofs.Truth.{not-So, eqb_iff, when-true, when-false}
 use Rattle.model.specs.Lists.{rows_at}
 use Rattle.model.specs.Candidates.{candidates}
 use Rattle.model.specs.State.{fresh, within_limits, rows_within}
@@ -47,7 +47,7 @@ module _ (n m : ℕ) (crew ws : List ℕ) (full : length ws ≡ record_length) (
   unfolding back_from
   back_refused d =
       let many = mined_many n m crew ws full ok size inside r ws' p d in
-      ap refused_text many.0 ∙ sym (if-false (leb (length (candidates rows)) 128) (crew_text n m rows) (refused_text 4) many.1)
+      ap refused_text many.0 ∙ sym (when-false (leb (length (candidates rows)) 128) (crew_text n m rows) (refused_text 4) many.1)
 
   -- mined: the record has the text of the list, and there is room for it
   pub back_written : r.code ≡ 0 → (out out' : List ℕ) (w : CrewWritten) → longest_written ≤ length out → write_result w out' ≡ write_crew ws' out
@@ -58,7 +58,7 @@ module _ (n m : ℕ) (crew ws : List ℕ) (full : length ws ≡ record_length) (
       let most : length (record_text ws') ≤ longest_written = text_most ws' h in
       let e : record_text ws' ≡ back_from n m rows =
       text_of ws' (fresh n m rows) (mined_state n m crew ws full ok size inside r ws' p z)
-      ∙ sym (if-true (leb (length (candidates rows)) 128) (crew_text n m rows) (refused_text 4) (mined_few n m crew ws full ok size inside r ws' p z)) in
+      ∙ sym (when-true (leb (length (candidates rows)) 128) (crew_text n m rows) (refused_text 4) (mined_few n m crew ws full ok size inside r ws' p z)) in
       let a = q ∙ written ws' out h (omega arith) in
       let el : w.length ≡ length (record_text ws') = ap (λ (x : Written). x.size) a in
       let eo : out' ≡ record_text ws' ++ drop (length (record_text ws')) out = ap (λ (x : Written). x.bytes) a in (
@@ -74,7 +74,7 @@ module _ (text : List ℕ) (r : CrewRead) (ws : List ℕ) (p : read_result r ws 
   a = read_crew text (replicate 512 0)
 
   abbrev few : List ℕ
-  few = if leb (length (candidates (rows_at a.n a.words 0))) 128 then text else refused_text 4
+  few = when leb (length (candidates (rows_at a.n a.words 0))) 128 then text else refused_text 4
 
   code : r.code ≡ (read_crew text (replicate 512 0)).code
   code = code_read text (replicate 512 0) r ws p
@@ -82,15 +82,15 @@ module _ (text : List ℕ) (r : CrewRead) (ws : List ℕ) (p : read_result r ws 
   pub text_refused : r.code ≢ 0 → refused_text r.code ≡ handed_back text
   unfolding handed_back
   text_refused d =
-      ap refused_text code ∙ sym (if-false (eqb a.code 0) few (refused_text a.code) (not-So (eqb a.code 0) (λ h. d (code ∙ (eqb_iff a.code 0).0 h))))
+      ap refused_text code ∙ sym (when-false (eqb a.code 0) few (refused_text a.code) (not-So (eqb a.code 0) (λ h. d (code ∙ (eqb_iff a.code 0).0 h))))
 
   pub text_back : r.code ≡ 0 → back_from r.n r.m (rows_at r.n (take (4 * r.n) ws) 0) ≡ handed_back text
   unfolding handed_back back_from read_result
   text_back z =
       let rows : rows_at r.n (take (4 * r.n) ws) 0 ≡ rows_at a.n a.words 0 = taken_rows r.n ws ∙ ap (λ (x : ReadReply). rows_at x.n x.words 0) p in
       let same = sym (text_canonical text (replicate 512 0) r ws p z) in
-      (λ i. if leb (length (candidates (rows i))) 128 then same i else refused_text 4)
-      ∙ sym (if-true (eqb a.code 0) few (refused_text a.code) ((eqb_iff a.code 0).1 (sym code ∙ z)))
+      (λ i. when leb (length (candidates (rows i))) 128 then same i else refused_text 4)
+      ∙ sym (when-true (eqb a.code 0) few (refused_text a.code) ((eqb_iff a.code 0).1 (sym code ∙ z)))
 
 -- ---- a text of which more bytes are read than the longest has comes back as if it were read whole
 
@@ -99,7 +99,7 @@ unfolding handed_back read_refused
 long_back text h =
     let a = read_crew text (replicate 512 0) in
     let ten : a.code ≡ 10 = ap (λ (x : ReadReply). x.code) (sym (too_long text (replicate 512 0) (length-replicate {A = ℕ} 512 0) h)) in
-    if-false (eqb a.code 0) _ (refused_text a.code) (not-So (eqb a.code 0) (λ t. let z = (eqb_iff a.code 0).0 t in let no : ⊥ = omega arith in no)) ∙ ap refused_text ten
+    when-false (eqb a.code 0) _ (refused_text a.code) (not-So (eqb a.code 0) (λ t. let z = (eqb_iff a.code 0).0 t in let no : ⊥ = omega arith in no)) ∙ ap refused_text ten
 
 both_long : (a b : List ℕ) → longest_text < length a → longest_text < length b → handed_back a ≡ handed_back b
 both_long a b h g = long_back a h ∙ sym (long_back b g)

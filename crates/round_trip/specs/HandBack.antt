@@ -2,7 +2,7 @@
 -- the text itself; or a refusal of the reader or of mining.
 -- Assumes nothing.
 use Rattle.std.specs.Prelude.{◌≡◌, List, ℕ, eqb, leb, length, replicate}
-use Rattle.sets.specs.Truth.{if◌then◌else◌}
+use Rattle.sets.specs.Truth.{when◌then◌else◌}
 use Rattle.model.specs.Lists.{rows_at}
 use Rattle.model.specs.Candidates.{candidates}
 use Rattle.stores.specs.Stores.{put_at}
@@ -13,13 +13,13 @@ use Rattle.text_roles.specs.Lines.{refused_text}
 unfoldable pub handed_back : List ℕ → List ℕ
 handed_back text =
     let a = read_crew text (replicate buffer_length 0) in
-    if eqb a.code 0
-    then if leb (length (candidates (rows_at a.n a.words 0))) 128 then text else refused_text 4
+    when eqb a.code 0
+    then when leb (length (candidates (rows_at a.n a.words 0))) 128 then text else refused_text 4
     else refused_text a.code
 
 -- the same of a crew list that was read: its text, where it has at most 128 candidates
 unfoldable pub back_from : ℕ → ℕ → List ℕ → List ℕ
-back_from n m rows = if leb (length (candidates rows)) 128 then crew_text n m rows else refused_text 4
+back_from n m rows = when leb (length (candidates rows)) 128 then crew_text n m rows else refused_text 4
 
 -- what comes back of the text is what stands first in the output
 pub record BackPut (text before after : List ℕ) (count : ℕ) : Type 0 where

@@ -9,9 +9,9 @@ use native.Mathlib.Nat.{lt_of_lt_of_le}
 use native.Mathlib.Omega.{arith}
 use lib.ListN.{length, get_or, take, drop}
 use lib.Pow.{pow_mono, pow_pos}
-use Rattle.sets.specs.Truth.{if◌then◌else◌}
+use Rattle.sets.specs.Truth.{when◌then◌else◌}
 use Rattle.sets.specs.Sets.{has, ◌∪◌, ◌∖◌, single, collect}
-use Rattle.sets.proofs.Truth.{by_test, same_test, not-So, So-not, either, equal_or, if-true, if-false}
+use Rattle.sets.proofs.Truth.{by_test, same_test, not-So, So-not, either, equal_or, when-true, when-false}
 use Rattle.sets.proofs.Items.{has-zero, has_above, same_below}
 use Rattle.sets.proofs.Order.{∪-iff, ∖-iff, single_iff, has_with, has-collect, collect_lt}
 use Rattle.sets.proofs.Words.{word-zero}
@@ -35,23 +35,23 @@ use Rattle.rows.specs.Linked.{Ready, Turned, juniors_in, Linked}
 
 -- the set with or without an item, item by item
 module _ (x i : ℕ) (t : Bool) where
-  own_item : has (if t then x ∪ single i else x ∖ single i) i ≡ t
+  own_item : has (when t then x ∪ single i else x ∖ single i) i ≡ t
   own_item =
-      by_test t (λ h. rw (if-true t (x ∪ single i) (x ∖ single i) h, h) (has_with x i))
+      by_test t (λ h. rw (when-true t (x ∪ single i) (x ∖ single i) h, h) (has_with x i))
       (λ h.
-      rw (if-false t (x ∪ single i) (x ∖ single i) h, h)
+      rw (when-false t (x ∪ single i) (x ∖ single i) h, h)
       (not-So (has (x ∖ single i) i) (λ p. ((∖-iff x (single i) i).0 p).1 ((single_iff i i).1 (λ _. i)))))
 
-  other_item : (a : ℕ) → a ≢ i → has (if t then x ∪ single i else x ∖ single i) a ≡ has x a
+  other_item : (a : ℕ) → a ≢ i → has (when t then x ∪ single i else x ∖ single i) a ≡ has x a
   other_item a d =
       let out : So (has (single i) a) → ⊥ = λ p. d (sym ((single_iff i a).0 p)) in
       by_test t
       (λ h.
-      rw (if-true t (x ∪ single i) (x ∖ single i) h)
+      rw (when-true t (x ∪ single i) (x ∖ single i) h)
       (same_test (has (x ∪ single i) a) (has x a) (λ p. ⊎_elim (λ q. q) (λ q. absurd (out q)) ((∪-iff x (single i) a).0 p))
       (λ p. (∪-iff x (single i) a).1 (◌⊎◌.inl p))))
       (λ h.
-      rw (if-false t (x ∪ single i) (x ∖ single i) h)
+      rw (when-false t (x ∪ single i) (x ∖ single i) h)
       (same_test (has (x ∖ single i) a) (has x a) (λ p. ((∖-iff x (single i) a).0 p).0) (λ p. (∖-iff x (single i) a).1 (p, out))))
 
 -- the entries of the roles that are not in rest tell whether role i has them as new juniors, and all entries what they told of the others
@@ -74,10 +74,10 @@ module _ (f : ℕ → ℕ) (i new : ℕ) where
       }
 
   pub relinked_more : (rest j x y : ℕ) (t : Bool) (ws : List ℕ) → j < 128 → 2 * j + 2 ≤ length ws → Relinked f i new rest ws → x ≡ set_at 2 ws (2 * j)
-      → t ≡ has new j → y ≡ (if t then x ∪ single i else x ∖ single i) → y < 2 ^ 128
+      → t ≡ has new j → y ≡ (when t then x ∪ single i else x ∖ single i) → y < 2 ^ 128
       → Relinked f i new (rest ∖ single j) (put_at ws (2 * j) (words_of 2 y))
   relinked_more rest j x y t ws lj room inv ex et ey small =
-      let here : set_at 2 (put_at ws (2 * j) (words_of 2 y)) (2 * j) ≡ (if t then x ∪ single i else x ∖ single i) = stored_back ws (2 * j) 2 y room small ∙ ey in
+      let here : set_at 2 (put_at ws (2 * j) (words_of 2 y)) (2 * j) ≡ (when t then x ∪ single i else x ∖ single i) = stored_back ws (2 * j) 2 y room small ∙ ey in
       record {
         own = λ b lb d.
             equal_or b j (λ (e : b ≡ j). rw e (ap (λ (z : ℕ). has z i) here ∙ own_item x i t ∙ et))

@@ -9,10 +9,10 @@ use native.Mathlib.Nat.{mul-suc, mul-le-mul_left, lt_of_lt_of_le}
 use native.Mathlib.Omega.{arith}
 use lib.ListN.{length, get_or, take, drop}
 use lib.Seq.{get_or-take, get_or-drop}
-use Rattle.sets.specs.Truth.{if◌then◌else◌}
+use Rattle.sets.specs.Truth.{when◌then◌else◌}
 use Rattle.sets.specs.Sets.{has, ◌∖◌, single}
 use Rattle.sets.specs.Words.{word}
-use Rattle.sets.proofs.Truth.{by_test, same_test, not-So, So-not, either, equal_or, if-true, if-false}
+use Rattle.sets.proofs.Truth.{by_test, same_test, not-So, So-not, either, equal_or, when-true, when-false}
 use Rattle.sets.proofs.Items.{has-zero}
 use Rattle.sets.proofs.Order.{∖-iff, single_iff}
 use Rattle.model.specs.Lists.{set_at}
@@ -29,23 +29,23 @@ use Rattle.rows.specs.Partway.{still, Region}
 module _ (s : ℕ) (old new : ℕ → ℕ) where
   pub still_new : (k : ℕ) → (So (has s k) → ⊥) → still s old new k ≡ new k
   unfolding still
-  still_new k h = if-false (has s k) (old k) (new k) (not-So (has s k) h)
+  still_new k h = when-false (has s k) (old k) (new k) (not-So (has s k) h)
 
   -- where nothing differs outside of s, all may be called old
   pub still_all : ((k : ℕ) → (So (has s k) → ⊥) → old k ≡ new k) → (k : ℕ) → old k ≡ still s old new k
   unfolding still
   still_all same k =
-      by_test (has s k) (λ h. sym (if-true (has s k) (old k) (new k) h)) (λ h. same k (So-not h) ∙ sym (if-false (has s k) (old k) (new k) h))
+      by_test (has s k) (λ h. sym (when-true (has s k) (old k) (new k) h)) (λ h. same k (So-not h) ∙ sym (when-false (has s k) (old k) (new k) h))
 
   pub still_done : (k : ℕ) → still (s ∖ single k) old new k ≡ new k
   unfolding still
   still_done k =
-      if-false (has (s ∖ single k) k) (old k) (new k) (not-So (has (s ∖ single k) k) (λ h. ((∖-iff s (single k) k).0 h).1 ((single_iff k k).1 refl)))
+      when-false (has (s ∖ single k) k) (old k) (new k) (not-So (has (s ∖ single k) k) (λ h. ((∖-iff s (single k) k).0 h).1 ((single_iff k k).1 refl)))
 
   pub still_other : (k i : ℕ) → i ≢ k → still (s ∖ single k) old new i ≡ still s old new i
   unfolding still
   still_other k i d =
-      ap (λ (b : Bool). if b then old i else new i)
+      ap (λ (b : Bool). when b then old i else new i)
       (same_test (has (s ∖ single k) i) (has s i) (λ h. ((∖-iff s (single k) i).0 h).0) (λ h. (∖-iff s (single k) i).1 (h, λ x. d (sym ((single_iff k i).0 x)))))
 
 pub still-none : (old new : ℕ → ℕ) (k : ℕ) → still 0 old new k ≡ new k

@@ -2,7 +2,7 @@
 -- Assumes nothing.
 use Rattle.std.specs.Prelude.{◌≡◌, List, ℕ, ◌+◌, ◌*◌, ◌≤◌, ◌<◌, length, get_or}
 use Rattle.std.proofs.Math.Bool.{So}
-use Rattle.sets.specs.Truth.{if◌then◌else◌}
+use Rattle.sets.specs.Truth.{when◌then◌else◌}
 use Rattle.sets.specs.Sets.{has}
 use Rattle.sets.specs.Words.{word}
 use Rattle.model.specs.Hierarchy.{Roles, permission_set, immediate_juniors, direct_permissions, direct_members, RoleRows}
@@ -12,7 +12,7 @@ use Rattle.indexes.specs.Index.{Indexed}
 
 -- the old entry of k where k is in s, the new one otherwise
 unfoldable pub still : ℕ → (ℕ → ℕ) → (ℕ → ℕ) → ℕ → ℕ
-still s old new k = if has s k then old k else new k
+still s old new k = when has s k then old k else new k
 
 -- from place `start` on stand the sets f 0, .. , f 127, w words each
 abbrev pub Region : ℕ → ℕ → (ℕ → ℕ) → List ℕ → Type 0

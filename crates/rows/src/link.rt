@@ -2,7 +2,7 @@
 ghost use Rattle.std.specs.Prelude.{◌≡◌, ◌≢◌, ℕ, ◌<◌, length};
 ghost use Rattle.sets_128.specs.Held.{set128};
 ghost use Rattle.sets.specs.Sets.{◌∪◌, ◌∖◌, single};
-ghost use Rattle.sets.specs.Truth.{if◌then◌else◌};
+ghost use Rattle.sets.specs.Truth.{when◌then◌else◌};
 ghost use Rattle.model.specs.Hierarchy.{RoleRows};
 ghost use Rattle.model.specs.Record.{record_length};
 ghost use Rattle.model.specs.State.{State};
@@ -19,7 +19,7 @@ use tables::{JUNIORS, load128, store128};
 // The set with the item i, or without it.
 fn with_or_without(s: Set128, i: usize, with: bool) -> Set128
     requires { i < 128 }
-    ensures { set128 result ≡ (if with then set128 s ∪ single i else set128 s ∖ single i) }
+    ensures { set128 result ≡ (when with then set128 s ∪ single i else set128 s ∖ single i) }
 {
     if with {
         return s.insert(i);

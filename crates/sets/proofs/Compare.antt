@@ -13,10 +13,10 @@ use lib.Arith.{lt_of_le-ne}
 use lib.Bits.{bit_or, bit_xor, xor_self, and_le_l, and_le_r, or_add_and, xor_add_and}
 use lib.Count.{ones, ones_cat}
 use lib.ListN.{length}
-use Rattle.sets.specs.Truth.{if◌then◌else◌, all}
+use Rattle.sets.specs.Truth.{when◌then◌else◌, all}
 use Rattle.sets.specs.Sets.{◌∩◌, ◌∖◌}
 use Rattle.sets.specs.Words.{value}
-use Rattle.sets.proofs.Truth.{same_test, all_of, all_is, all_more, eqb_iff, ltb_iff, equal_or, if-true, if-false}
+use Rattle.sets.proofs.Truth.{same_test, all_of, all_is, all_more, eqb_iff, ltb_iff, equal_or, when-true, when-false}
 use Rattle.sets.proofs.Words.{Words}
 
 -- ---- all words at once
@@ -84,7 +84,7 @@ differ_more d x y i f ed ef =
 abbrev pub less_from : Bool → List ℕ → List ℕ → Bool
 less_from t [] ys = t
 less_from t (x ∷ xs) [] = t
-less_from t (x ∷ xs) (y ∷ ys) = less_from (if eqb x y then t else ltb x y) xs ys
+less_from t (x ∷ xs) (y ∷ ys) = less_from (when eqb x y then t else ltb x y) xs ys
 
 order_same : (a b c d : ℕ) → (a < b) ↔ (c < d) → ltb a b ≡ ltb c d
 order_same a b c d k =
@@ -92,34 +92,34 @@ order_same a b c d k =
 
 -- the numbers A and B, of the words x and y and what stands above them
 less-step : (t : Bool) (X Y x y A B : ℕ) → x < 2 ^ 64 → y < 2 ^ 64 → A ≡ X * 2 ^ 64 + x → B ≡ Y * 2 ^ 64 + y
-    → (if eqb X Y then (if eqb x y then t else ltb x y) else ltb X Y) ≡ (if eqb A B then t else ltb A B)
+    → (when eqb X Y then (when eqb x y then t else ltb x y) else ltb X Y) ≡ (when eqb A B then t else ltb A B)
 less-step t X Y x y A B hx hy ea eb =
     equal_or X Y
     (λ (e : X ≡ Y).
     let p : eqb x y ≡ eqb A B = test_same x y A B (λ (h : x ≡ y). omega arith, λ (h : A ≡ B). omega arith) in
     let q : ltb x y ≡ ltb A B = order_same x y A B (λ (h : x < y). omega arith, λ (h : A < B). omega arith) in
-    if-true (eqb X Y) (if eqb x y then t else ltb x y) (ltb X Y) ((eqb_iff X Y).1 e) ∙ ap₂ (λ (u v : Bool). if u then t else v) p q)
+    when-true (eqb X Y) (when eqb x y then t else ltb x y) (ltb X Y) ((eqb_iff X Y).1 e) ∙ ap₂ (λ (u v : Bool). when u then t else v) p q)
     (λ d.
     let q : ltb X Y ≡ ltb A B = order_same X Y A B (λ (h : X < Y). omega arith, λ (h : A < B). lt_of_le-ne (omega arith) d) in
-    if-false (eqb X Y) (if eqb x y then t else ltb x y) (ltb X Y) (ne_eqb X Y d)
-    ∙ q ∙ sym (if-false (eqb A B) t (ltb A B) (ne_eqb A B (λ (h : A ≡ B). d (omega arith)))))
+    when-false (eqb X Y) (when eqb x y then t else ltb x y) (ltb X Y) (ne_eqb X Y d)
+    ∙ q ∙ sym (when-false (eqb A B) t (ltb A B) (ne_eqb A B (λ (h : A ≡ B). d (omega arith)))))
 
 pub value-less : (t : Bool) (xs ys : List ℕ) → Words xs → Words ys → length xs ≡ length ys
-    → less_from t xs ys ≡ (if eqb (value xs) (value ys) then t else ltb (value xs) (value ys))
+    → less_from t xs ys ≡ (when eqb (value xs) (value ys) then t else ltb (value xs) (value ys))
 unfolding value
-value-less t [] [] hx hy e = sym (if-true (eqb 0 0) t (ltb 0 0) refl)
+value-less t [] [] hx hy e = sym (when-true (eqb 0 0) t (ltb 0 0) refl)
 value-less t [] (y ∷ ys) hx hy e = absurd (omega arith)
 value-less t (x ∷ xs) [] hx hy e = absurd (omega arith)
 value-less t (x ∷ xs) (y ∷ ys) hx hy e =
-    value-less (if eqb x y then t else ltb x y) xs ys (λ i. hx (suc i)) (λ i. hy (suc i)) (suc_inj e)
+    value-less (when eqb x y then t else ltb x y) xs ys (λ i. hx (suc i)) (λ i. hy (suc i)) (suc_inj e)
     ∙ less-step t (value xs) (value ys) x y (value (x ∷ xs)) (value (y ∷ ys)) (hx 0) (hy 0) refl refl
 
 -- with `false` where all words are equal, it is the order of the numbers
-pub less_none : (a b : ℕ) → (if eqb a b then false else ltb a b) ≡ ltb a b
+pub less_none : (a b : ℕ) → (when eqb a b then false else ltb a b) ≡ ltb a b
 less_none a b =
     equal_or a b
-    (λ (e : a ≡ b). if-true (eqb a b) false (ltb a b) ((eqb_iff a b).1 e) ∙ sym (le-ltb a b (omega arith)))
-    (λ d. if-false (eqb a b) false (ltb a b) (ne_eqb a b d))
+    (λ (e : a ≡ b). when-true (eqb a b) false (ltb a b) ((eqb_iff a b).1 e) ∙ sym (le-ltb a b (omega arith)))
+    (λ d. when-false (eqb a b) false (ltb a b) (ne_eqb a b d))
 
 -- ---- count
 

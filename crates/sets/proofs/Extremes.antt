@@ -14,11 +14,11 @@ use lib.Count.{count_trailing_zeros, count_leading_zeros, leading_top}
 use lib.ListN.{length}
 use Rattle.sets.specs.declared.item.Item.{Item}
 use Rattle.sets.specs.declared.item.Item.TheVariants.{At, Nothing}
-use Rattle.sets.specs.Truth.{if◌then◌else◌}
+use Rattle.sets.specs.Truth.{when◌then◌else◌}
 use Rattle.sets.specs.Sets.{has}
 use Rattle.sets.specs.Words.{value}
 use Rattle.sets.specs.Extremes.{◌otherwise◌, item_at, lowest, highest, LowestItem, HighestItem}
-use Rattle.sets.proofs.Truth.{by_test, So-not, eqb_iff, either, equal_or, below_suc, if-true, if-false}
+use Rattle.sets.proofs.Truth.{by_test, So-not, eqb_iff, either, equal_or, below_suc, when-true, when-false}
 use Rattle.sets.proofs.Items.{digit, has-zero, has_first, has_rest, has_low, has_above, item_below, empty_of}
 use Rattle.sets.proofs.Words.{Words, has_shift}
 
@@ -26,11 +26,11 @@ use Rattle.sets.proofs.Words.{Words, has_shift}
 
 item_at_lem : (s n : ℕ) → So (has s n) → item_at s n ≡ At n
 unfolding item_at
-item_at_lem s n h = if-true (has s n) (At n) Nothing h
+item_at_lem s n h = when-true (has s n) (At n) Nothing h
 
 no_item : (s n : ℕ) → has s n ≡ false → item_at s n ≡ Nothing
 unfolding item_at
-no_item s n h = if-false (has s n) (At n) Nothing h
+no_item s n h = when-false (has s n) (At n) Nothing h
 
 or_else_nothing : (a : Item) → (a otherwise Nothing) ≡ a
 unfolding ◌otherwise◌
@@ -256,11 +256,11 @@ trailing_is (suc k) w d h =
     below e f zero l = has_first w ∙ ap (λ (x : ℕ). eqb x 1) e
     below e f (suc j) l = has_rest w j ∙ f j (omega arith)
 
-pub lowest-word : (k w : ℕ) → w < 2 ^ k → lowest k w ≡ (if eqb w 0 then Nothing else At (count_trailing_zeros k w))
+pub lowest-word : (k w : ℕ) → w < 2 ^ k → lowest k w ≡ (when eqb w 0 then Nothing else At (count_trailing_zeros k w))
 lowest-word k w h =
     equal_or w 0
-    (λ e. (lowest-none_iff k w h).1 e ∙ sym (if-true (eqb w 0) Nothing (At (count_trailing_zeros k w)) ((eqb_iff w 0).1 e)))
-    (λ d. (lowest_iff k w (count_trailing_zeros k w)).1 (trailing_is k w d h) ∙ sym (if-false (eqb w 0) Nothing (At (count_trailing_zeros k w)) (ne_eqb w 0 d)))
+    (λ e. (lowest-none_iff k w h).1 e ∙ sym (when-true (eqb w 0) Nothing (At (count_trailing_zeros k w)) ((eqb_iff w 0).1 e)))
+    (λ d. (lowest_iff k w (count_trailing_zeros k w)).1 (trailing_is k w d h) ∙ sym (when-false (eqb w 0) Nothing (At (count_trailing_zeros k w)) (ne_eqb w 0 d)))
 
 top_digit : (j w : ℕ) → 2 ^ j ≤ w → w < 2 ^ suc j → w / 2 ^ j ≡ 1
 top_digit j w l h =
@@ -279,24 +279,24 @@ leading_is k w d h =
 pub leading_lt : (k w : ℕ) → w ≢ 0 → w < 2 ^ k → count_leading_zeros k w < k
 leading_lt k w d h = let t = leading_top k w (pos_of_ne-zero d) h in omega (arith, t.1)
 
-pub highest-word : (k w : ℕ) → w < 2 ^ k → highest k w ≡ (if eqb w 0 then Nothing else At (k - 1 - count_leading_zeros k w))
+pub highest-word : (k w : ℕ) → w < 2 ^ k → highest k w ≡ (when eqb w 0 then Nothing else At (k - 1 - count_leading_zeros k w))
 highest-word k w h =
     equal_or w 0
-    (λ e. (highest-none_iff k w h).1 e ∙ sym (if-true (eqb w 0) Nothing (At (k - 1 - count_leading_zeros k w)) ((eqb_iff w 0).1 e)))
-    (λ d. (highest_iff k w (k - 1 - count_leading_zeros k w)).1 (leading_is k w d h) ∙ sym (if-false (eqb w 0) Nothing (At (k - 1 - count_leading_zeros k w)) (ne_eqb w 0 d)))
+    (λ e. (highest-none_iff k w h).1 e ∙ sym (when-true (eqb w 0) Nothing (At (k - 1 - count_leading_zeros k w)) ((eqb_iff w 0).1 e)))
+    (λ d. (highest_iff k w (k - 1 - count_leading_zeros k w)).1 (leading_is k w d h) ∙ sym (when-false (eqb w 0) Nothing (At (k - 1 - count_leading_zeros k w)) (ne_eqb w 0 d)))
 
 -- ---- a list of words, the first of which stands at `at`
 
 abbrev pub lowest_from : ℕ → List ℕ → Item
 lowest_from at [] = Nothing
-lowest_from at (w ∷ ws) = if eqb w 0 then lowest_from (at + 64) ws else At (at + count_trailing_zeros 64 w)
+lowest_from at (w ∷ ws) = when eqb w 0 then lowest_from (at + 64) ws else At (at + count_trailing_zeros 64 w)
 
 abbrev pub highest_from : ℕ → Item → List ℕ → Item
 highest_from at below [] = below
-highest_from at below (w ∷ ws) = highest_from (at + 64) (if eqb w 0 then below else At (at + (63 - count_leading_zeros 64 w))) ws
+highest_from at below (w ∷ ws) = highest_from (at + 64) (when eqb w 0 then below else At (at + (63 - count_leading_zeros 64 w))) ws
 
-in_word : (at i : ℕ) (a : Item) (t : Bool) → (moved at (if t then Nothing else At i) otherwise a) ≡ (if t then a else At (at + i))
-unfolding ◌otherwise◌ if◌then◌else◌
+in_word : (at i : ℕ) (a : Item) (t : Bool) → (moved at (when t then Nothing else At i) otherwise a) ≡ (when t then a else At (at + i))
+unfolding ◌otherwise◌ when◌then◌else◌
 in_word at i a true = refl
 in_word at i a false = refl
 
@@ -322,7 +322,7 @@ highest-from at below (w ∷ ws) h =
     let top : ℕ = 63 - count_leading_zeros 64 w in
     let whole : highest (64 * suc (length ws)) (value ws * 2 ^ 64 + w) ≡ (moved 64 rest otherwise highest 64 w) =
     ap (λ (n : ℕ). highest n (value ws * 2 ^ 64 + w)) (wider (length ws)) ∙ highest_parts 64 (value ws) w (h 0) (64 * length ws) in
-    highest-from (at + 64) (if eqb w 0 then below else At (at + top)) ws (λ i. h (suc i))
+    highest-from (at + 64) (when eqb w 0 then below else At (at + top)) ws (λ i. h (suc i))
     ∙ ap₂ ◌otherwise◌ (sym (moved-moved at 64 rest)) (sym (in_word at top below (eqb w 0)) ∙ ap (λ (a : Item). moved at a otherwise below) (sym (highest-word 64 w (h 0))))
     ∙ sym (or_else_assoc (moved at (moved 64 rest)) (moved at (highest 64 w)) below)
     ∙ ap (λ (a : Item). a otherwise below) (sym (moved_or_else at (moved 64 rest) (highest 64 w)) ∙ ap (moved at) (sym whole))

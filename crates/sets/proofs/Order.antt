@@ -11,9 +11,9 @@ use lib.Pow.{pow_pos, pow-lt, pow-add, high, low}
 use lib.Bits.{bit_and, and_le_r, or_lt, and_comm, and_self, and_zero_l, or_zero_l, or_zero_r}
 use lib.Arith.{lt_of_le-ne, digits_lt}
 use borrow.Author.Tests.{ne_eqb}
-use Rattle.sets.specs.Truth.{isnt, if◌then◌else◌, bit}
+use Rattle.sets.specs.Truth.{isnt, when◌then◌else◌, bit}
 use Rattle.sets.specs.Sets.{has, ◌∩◌, ◌∪◌, ◌∖◌, single, subset, proper_subset, collect}
-use Rattle.sets.proofs.Truth.{by_test, either, same_test, not-So, So-not, and_iff, or_iff, isnt_iff, eqb_iff, ltb_iff, below_suc, equal_or, if-true, if-false}
+use Rattle.sets.proofs.Truth.{by_test, either, same_test, not-So, So-not, and_iff, or_iff, isnt_iff, eqb_iff, ltb_iff, below_suc, equal_or, when-true, when-false}
 use Rattle.sets.proofs.Items.{has_top, same_below, has-zero, has_first, has_rest, empty_of, has-∩, has-∪, has-∖, has_low, has_above, item_below, same_set, below_of_items, item_of}
 
 -- ---- the operations as statements
@@ -259,28 +259,28 @@ collect-all zero = refl
 collect-all (suc n) = rw (collect-all n) (omega (arith, pow-suc 2 n, pow_pos n))
 
 -- one index more
-pub collect_more : (n s : ℕ) (f : ℕ → Bool) → s ≡ collect n f → (if f n then s ∪ single n else s) ≡ collect (n + 1) f
+pub collect_more : (n s : ℕ) (f : ℕ → Bool) → s ≡ collect n f → (when f n then s ∪ single n else s) ≡ collect (n + 1) f
 collect_more n s f e =
-    same_set (if f n then s ∪ single n else s) (collect (n + 1) f)
+    same_set (when f n then s ∪ single n else s) (collect (n + 1) f)
     (λ i t.
     by_test (f n)
     (λ h.
     ⊎_elim (λ x. old i (rw e at x)) (λ x. let d : n ≡ i = (single_iff n i).0 x in (collect_iff (n + 1) f i).1 (omega arith, rw d at h))
-    ((∪-iff s (single n) i).0 (rw (if-true (f n) (s ∪ single n) s h) at t)))
-    (λ h. old i (rw (if-false (f n) (s ∪ single n) s h, e) at t)))
+    ((∪-iff s (single n) i).0 (rw (when-true (f n) (s ∪ single n) s h) at t)))
+    (λ h. old i (rw (when-false (f n) (s ∪ single n) s h, e) at t)))
     (λ i t.
     let a = (collect_iff (n + 1) f i).0 t in
     equal_or i n
-    (λ (d : i ≡ n). let h : So (f n) = rw d at a.1 in rw (if-true (f n) (s ∪ single n) s h) ((∪-iff s (single n) i).1 (◌⊎◌.inr ((single_iff n i).1 (sym d)))))
+    (λ (d : i ≡ n). let h : So (f n) = rw d at a.1 in rw (when-true (f n) (s ∪ single n) s h) ((∪-iff s (single n) i).1 (◌⊎◌.inr ((single_iff n i).1 (sym d)))))
     (λ d.
     let x : So (has s i) = rw e ((collect_iff n f i).1 (omega arith, a.1)) in
-    by_test (f n) (λ h. rw (if-true (f n) (s ∪ single n) s h) ((∪-iff s (single n) i).1 (◌⊎◌.inl x))) (λ h. rw (if-false (f n) (s ∪ single n) s h) x)))
+    by_test (f n) (λ h. rw (when-true (f n) (s ∪ single n) s h) ((∪-iff s (single n) i).1 (◌⊎◌.inl x))) (λ h. rw (when-false (f n) (s ∪ single n) s h) x)))
   where
     old : (i : ℕ) → So (has (collect n f) i) → So (has (collect (n + 1) f) i)
     old i x = let a = (collect_iff n f i).0 x in (collect_iff (n + 1) f i).1 (omega (arith, a.0), a.1)
 
 -- the same gathered in one word
-pub collect-bit : (n s : ℕ) (f : ℕ → Bool) → n < 64 → s ≡ collect n f → (if f n then s ∪ single (n % 64) else s) ≡ collect (n + 1) f
+pub collect-bit : (n s : ℕ) (f : ℕ → Bool) → n < 64 → s ≡ collect n f → (when f n then s ∪ single (n % 64) else s) ≡ collect (n + 1) f
 collect-bit n s f l e = let d : n % 64 ≡ n = omega arith in rw d (collect_more n s f e)
 
 -- the first k, and the rest from k on
@@ -309,8 +309,8 @@ collect_parts k (suc n) f =
     ∙ ap (λ (x : ℕ). bit (f n) * 2 ^ n + x) h))
 
 -- an item put in where a test holds: what an insertion below the width gives, and what leaving it out does
-pub put_in : (t : Bool) (r s i w : ℕ) → i < w → So t → r ≡ (if ltb i w then s ∪ single i else s) → r ≡ (if t then s ∪ single i else s)
-put_in t r s i w l h e = e ∙ if-true (ltb i w) (s ∪ single i) s ((ltb_iff i w).1 l) ∙ sym (if-true t (s ∪ single i) s h)
+pub put_in : (t : Bool) (r s i w : ℕ) → i < w → So t → r ≡ (when ltb i w then s ∪ single i else s) → r ≡ (when t then s ∪ single i else s)
+put_in t r s i w l h e = e ∙ when-true (ltb i w) (s ∪ single i) s ((ltb_iff i w).1 l) ∙ sym (when-true t (s ∪ single i) s h)
 
-pub left_out : (t : Bool) (s i : ℕ) → t ≡ false → s ≡ (if t then s ∪ single i else s)
-left_out t s i h = sym (if-false t (s ∪ single i) s h)
+pub left_out : (t : Bool) (s i : ℕ) → t ≡ false → s ≡ (when t then s ∪ single i else s)
+left_out t s i h = sym (when-false t (s ∪ single i) s h)

@@ -10,7 +10,7 @@ use native.Mathlib.Omega.{arith}
 use lib.Dec.{eqb, ltb, leb}
 use lib.Arith.{lt_of_le-ne}
 use borrow.Author.Tests.{eqb-true, eqb-false, eq-eqb, ltb-true, ltb-false, lt-ltb, leb-true, le-leb}
-use Rattle.sets.specs.Truth.{◌and◌, ◌or◌, ◌implies◌, isnt, if◌then◌else◌, bit, any, all, none, total}
+use Rattle.sets.specs.Truth.{◌and◌, ◌or◌, ◌implies◌, isnt, when◌then◌else◌, bit, any, all, none, total}
 
 -- ---- one test
 
@@ -65,19 +65,19 @@ ltb_iff a b = (ltb-true a b, lt-ltb a b)
 pub leb_iff : (a b : ℕ) → So (leb a b) ↔ (a ≤ b)
 leb_iff a b = (leb-true a b, le-leb a b)
 
-pub if-true {ℓ} : {A : Type ℓ} (t : Bool) (a b : A) → So t → (if t then a else b) ≡ a
-unfolding if◌then◌else◌
-if-true true a b h = refl
-if-true false a b h = absurd (false≢true h)
+pub when-true {ℓ} : {A : Type ℓ} (t : Bool) (a b : A) → So t → (when t then a else b) ≡ a
+unfolding when◌then◌else◌
+when-true true a b h = refl
+when-true false a b h = absurd (false≢true h)
 
-pub if-false {ℓ} : {A : Type ℓ} (t : Bool) (a b : A) → t ≡ false → (if t then a else b) ≡ b
-unfolding if◌then◌else◌
-if-false true a b h = absurd (true≢false h)
-if-false false a b h = refl
+pub when-false {ℓ} : {A : Type ℓ} (t : Bool) (a b : A) → t ≡ false → (when t then a else b) ≡ b
+unfolding when◌then◌else◌
+when-false true a b h = absurd (true≢false h)
+when-false false a b h = refl
 
 -- the first where t holds, the second where it does not: written without a choice
-pub picked : (t a b : Bool) → (a and t or b and isnt t) ≡ (if t then a else b)
-unfolding ◌and◌ ◌or◌ isnt if◌then◌else◌
+pub picked : (t a b : Bool) → (a and t or b and isnt t) ≡ (when t then a else b)
+unfolding ◌and◌ ◌or◌ isnt when◌then◌else◌
 picked true true b = refl
 picked true false true = refl
 picked true false false = refl
@@ -87,15 +87,15 @@ picked false false true = refl
 picked false false false = refl
 
 -- a test that is to hold, and stops where it does not
-pub if-passes {ℓ} : {A : Type ℓ} (t : Bool) (a b : A) → So t → (if isnt t then a else b) ≡ b
-if-passes t a b h = if-false (isnt t) a b (not-So (isnt t) (λ s. (isnt_iff t).0 s h))
+pub when-passes {ℓ} : {A : Type ℓ} (t : Bool) (a b : A) → So t → (when isnt t then a else b) ≡ b
+when-passes t a b h = when-false (isnt t) a b (not-So (isnt t) (λ s. (isnt_iff t).0 s h))
 
-pub if_stops {ℓ} : {A : Type ℓ} (t : Bool) (a b : A) → t ≡ false → (if isnt t then a else b) ≡ a
-if_stops t a b h = if-true (isnt t) a b ((isnt_iff t).1 (So-not h))
+pub when_stops {ℓ} : {A : Type ℓ} (t : Bool) (a b : A) → t ≡ false → (when isnt t then a else b) ≡ a
+when_stops t a b h = when-true (isnt t) a b ((isnt_iff t).1 (So-not h))
 
 -- what a choice gave, by the way that it went
-pub if_cases {ℓ ℓ'} : {A : Type ℓ} {C : Type ℓ'} (t : Bool) (a b r : A) → (if t then a else b) ≡ r → (So t → a ≡ r → C) → (t ≡ false → b ≡ r → C) → C
-if_cases t a b r e l o = by_test t (λ h. l h (sym (if-true t a b h) ∙ e)) (λ h. o h (sym (if-false t a b h) ∙ e))
+pub when_cases {ℓ ℓ'} : {A : Type ℓ} {C : Type ℓ'} (t : Bool) (a b r : A) → (when t then a else b) ≡ r → (So t → a ≡ r → C) → (t ≡ false → b ≡ r → C) → C
+when_cases t a b r e l o = by_test t (λ h. l h (sym (when-true t a b h) ∙ e)) (λ h. o h (sym (when-false t a b h) ∙ e))
 
 pub bit-true : (t : Bool) → So t → bit t ≡ 1
 unfolding bit

@@ -16,11 +16,11 @@ use lib.Bits.{bit_and, bit_or, bit_xor, and_mask, or_zero_r}
 use lib.Count.{ones}
 use lib.ListN.{length, get_or, get_or-eq_default}
 use Rattle.sets.specs.declared.item.Item.TheVariants.{Nothing}
-use Rattle.sets.specs.Truth.{◌and◌, ◌or◌, isnt, if◌then◌else◌}
+use Rattle.sets.specs.Truth.{◌and◌, ◌or◌, isnt, when◌then◌else◌}
 use Rattle.sets.specs.Sets.{has, ◌∩◌, ◌∪◌, ◌∖◌, single, subset, proper_subset}
 use Rattle.sets.specs.Words.{value, word}
 use Rattle.sets.specs.Extremes.{lowest, highest}
-use Rattle.sets.proofs.Truth.{by_test, either, if-true, if-false}
+use Rattle.sets.proofs.Truth.{by_test, either, when-true, when-false}
 use Rattle.sets.proofs.Items.{same_below, has-zero, has-∩, has-∪, has-∖, has_low, has_above}
 use Rattle.sets.proofs.Order.{has-single, single_lt, ∪-zero, without_absent}
 use Rattle.sets.proofs.Words.{Words, Wordwise, value_lt, word_lt, word-zero, word_value, value_words, has_shift, has_word, zip, value-zip, wordwise-∩, wordwise-∪, wordwise-∖, wordwise_xor, ∖-zero, masked, and_turned}
@@ -117,8 +117,8 @@ shifted_one : (b : ℕ) → b < 64 → 1 * 2 ^ b % 2 ^ 64 ≡ 2 ^ b
 shifted_one b h = ap (λ (x : ℕ). x % 2 ^ 64) (one-mul (2 ^ b)) ∙ mod-eq_of_lt (pow-lt h)
 
 -- its bit put into a word where a test holds
-pub bit_in : (w i : ℕ) (t : Bool) → i < 64 → bit_or w (bool_byte t * 2 ^ i % 2 ^ 64) ≡ (if t then w ∪ single i else w)
-unfolding ◌∪◌ single if◌then◌else◌
+pub bit_in : (w i : ℕ) (t : Bool) → i < 64 → bit_or w (bool_byte t * 2 ^ i % 2 ^ 64) ≡ (when t then w ∪ single i else w)
+unfolding ◌∪◌ single when◌then◌else◌
 bit_in w i true h = ap (bit_or w) (shifted_one i h)
 bit_in w i false h = rw (zero-mul (2 ^ i)) (or_zero_r w)
 
@@ -182,28 +182,28 @@ get_d_spread j zero i q l = absurd (not-suc-le-zero l)
 get_d_spread j (suc n) i zero l = ap (word (single i)) (sym (add-zero j))
 get_d_spread j (suc n) i (suc q) l = get_d_spread (suc j) n i q (le_of_suc-le-suc l) ∙ ap (word (single i)) (let e : suc j + q ≡ j + suc q = omega arith in e)
 
-pub only_words : (n i : ℕ) → value (spread 0 n i) ≡ (if ltb i (64 * n) then single i else 0)
+pub only_words : (n i : ℕ) → value (spread 0 n i) ≡ (when ltb i (64 * n) then single i else 0)
 only_words n i =
     let e = length-spread 0 n i in
     either i (64 * n)
     (λ l.
     value_words (spread 0 n i) (single i) (rw e (single_lt (64 * n) i l)) (λ q b. get_d_spread 0 n i q (rw e at b) ∙ ap (word (single i)) (zero-add q))
-    ∙ sym (if-true (ltb i (64 * n)) (single i) 0 (lt-ltb i (64 * n) l)))
+    ∙ sym (when-true (ltb i (64 * n)) (single i) 0 (lt-ltb i (64 * n) l)))
     (λ l.
     value_words (spread 0 n i) 0 (pow_pos (64 * length (spread 0 n i)))
     (λ q b. get_d_spread 0 n i q (rw e at b) ∙ ap (word (single i)) (zero-add q) ∙ sym (bit_elsewhere i q (λ (h : i / 64 ≡ q). let b' : q < n = rw e at b in omega arith)) ∙ sym (word-zero q))
-    ∙ sym (if-false (ltb i (64 * n)) (single i) 0 (le-ltb i (64 * n) l)))
+    ∙ sym (when-false (ltb i (64 * n)) (single i) 0 (le-ltb i (64 * n) l)))
 
 -- put in and taken out
-pub with_only : (s i w : ℕ) → s ∪ (if ltb i w then single i else 0) ≡ (if ltb i w then s ∪ single i else s)
+pub with_only : (s i w : ℕ) → s ∪ (when ltb i w then single i else 0) ≡ (when ltb i w then s ∪ single i else s)
 with_only s i w =
-    by_test (ltb i w) (λ h. rw (if-true (ltb i w) (single i) 0 h, if-true (ltb i w) (s ∪ single i) s h) refl)
-    (λ h. rw (if-false (ltb i w) (single i) 0 h, if-false (ltb i w) (s ∪ single i) s h) (∪-zero s))
+    by_test (ltb i w) (λ h. rw (when-true (ltb i w) (single i) 0 h, when-true (ltb i w) (s ∪ single i) s h) refl)
+    (λ h. rw (when-false (ltb i w) (single i) 0 h, when-false (ltb i w) (s ∪ single i) s h) (∪-zero s))
 
-pub without_only : (s i w : ℕ) → s < 2 ^ w → s ∖ (if ltb i w then single i else 0) ≡ s ∖ single i
+pub without_only : (s i w : ℕ) → s < 2 ^ w → s ∖ (when ltb i w then single i else 0) ≡ s ∖ single i
 without_only s i w b =
-    by_test (ltb i w) (λ h. rw (if-true (ltb i w) (single i) 0 h) refl)
-    (λ h. rw (if-false (ltb i w) (single i) 0 h) (∖-zero s ∙ sym (without_absent s i (has_above w s i b (ltb-false i w h)))))
+    by_test (ltb i w) (λ h. rw (when-true (ltb i w) (single i) 0 h) refl)
+    (λ h. rw (when-false (ltb i w) (single i) 0 h) (∖-zero s ∙ sym (without_absent s i (has_above w s i b (ltb-false i w h)))))
 
 -- ---- one mask: of the items from `at` on, those below n
 
@@ -222,11 +222,11 @@ mask_some n at l = let e : min 64 (n - at) ≡ n - at = omega arith in rw (e, sh
 -- ---- tests
 
 -- a choice by whether two numbers are equal, each way
-pub if_equal {ℓ} : {A : Type ℓ} (a b : ℕ) (x y : A) → a ≡ b → x ≡ (if eqb a b then x else y)
-if_equal a b x y e = sym (if-true (eqb a b) x y (eq-eqb a b e))
+pub when_equal {ℓ} : {A : Type ℓ} (a b : ℕ) (x y : A) → a ≡ b → x ≡ (when eqb a b then x else y)
+when_equal a b x y e = sym (when-true (eqb a b) x y (eq-eqb a b e))
 
-pub if_other {ℓ} : {A : Type ℓ} (a b : ℕ) (x y : A) → (a ≡ b → ⊥) → y ≡ (if eqb a b then x else y)
-if_other a b x y d = sym (if-false (eqb a b) x y (ne_eqb a b d))
+pub when_other {ℓ} : {A : Type ℓ} (a b : ℕ) (x y : A) → (a ≡ b → ⊥) → y ≡ (when eqb a b then x else y)
+when_other a b x y d = sym (when-false (eqb a b) x y (ne_eqb a b d))
 
 -- the connectives of the code
 pub both_test : (p q : Bool) → (p && q) ≡ (p and q)

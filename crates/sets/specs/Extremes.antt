@@ -4,7 +4,7 @@ use Rattle.std.proofs.Math.Bool.{So}
 use Rattle.std.specs.Prelude.{ℕ, zero, suc, ◌≤◌, ◌<◌}
 use Rattle.sets.specs.declared.item.Item.{Item}
 use Rattle.sets.specs.declared.item.Item.TheVariants.{At, Nothing}
-use Rattle.sets.specs.Truth.{if◌then◌else◌}
+use Rattle.sets.specs.Truth.{when◌then◌else◌}
 use Rattle.sets.specs.Sets.{has}
 
 infixl 20 ◌otherwise◌
@@ -15,7 +15,7 @@ Nothing otherwise b = b
 
 -- n where it is an item of s
 unfoldable pub item_at : ℕ → ℕ → Item
-item_at s n = if has s n then At n else Nothing
+item_at s n = when has s n then At n else Nothing
 
 -- of the items of s below n, the lowest
 unfoldable pub lowest : ℕ → ℕ → Item

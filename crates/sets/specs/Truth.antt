@@ -6,7 +6,7 @@ use Rattle.std.specs.Prelude.{Bool, true, false, ℕ, zero, suc, ◌+◌}
 infixl 35 ◌and◌
 infixl 30 ◌or◌
 infixr 25 ◌implies◌
-infixr 10 if◌then◌else◌
+infixr 10 when◌then◌else◌
 unfoldable pub ◌and◌ : Bool → Bool → Bool
 true and b = b
 false and b = false
@@ -24,9 +24,9 @@ isnt true = false
 isnt false = true
 
 -- the first where the test holds, the second where it does not
-unfoldable pub if◌then◌else◌ {ℓ} : {A : Type ℓ} → Bool → A → A → A
-if true then a else b = a
-if false then a else b = b
+unfoldable pub when◌then◌else◌ {ℓ} : {A : Type ℓ} → Bool → A → A → A
+when true then a else b = a
+when false then a else b = b
 
 -- a test as a digit
 unfoldable pub bit : Bool → ℕ

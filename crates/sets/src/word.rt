@@ -2,7 +2,7 @@
 ghost use Rattle.std.specs.Prelude.{◌≡◌, ◌+◌, ◌-◌, ◌/◌, ◌%◌, ◌^◌, ◌≤◌, ◌<◌, min, eqb, ltb};
 ghost use Rattle.std.specs.Int.Count.{ones, count_trailing_zeros, count_leading_zeros};
 ghost use Rattle.sets.specs.Sets.{◌∪◌, single};
-ghost use Rattle.sets.specs.Truth.{if◌then◌else◌};
+ghost use Rattle.sets.specs.Truth.{when◌then◌else◌};
 ghost use Rattle.sets.specs.Words.{word};
 
 use crate::item::Item;
@@ -36,7 +36,7 @@ pub fn bit_at(i: usize, j: usize) -> u64
 
 // A word with the bit of item i put in where `held` says so, without a branch.
 pub fn with_bit(w: u64, i: usize, held: bool) -> u64
-    ensures { result ≡ (if held then w ∪ single (i % 64) else w) }
+    ensures { result ≡ (when held then w ∪ single (i % 64) else w) }
 {
     w | ((held as u64) << place_of(i).bit)
 }
@@ -50,14 +50,14 @@ pub fn count_of(w: u64) -> usize
 
 // Whether a is less than b; where they are equal, what the words below say.
 pub fn less_or(a: u64, b: u64, lower: bool) -> bool
-    ensures { result ≡ (if eqb a b then lower else ltb a b) }
+    ensures { result ≡ (when eqb a b then lower else ltb a b) }
 {
     if a == b { lower } else { a < b }
 }
 
 // The lowest item of a word whose first item is `at`, or else what the words above have. `at` is small, so that the sum fits.
 pub fn lowest_or(w: u64, at: u8, above: Item) -> Item
-    ensures { result ≡ (if eqb w 0 then above else Item.At (at + count_trailing_zeros 64 w)) }
+    ensures { result ≡ (when eqb w 0 then above else Item.At (at + count_trailing_zeros 64 w)) }
 {
     if w == 0 {
         return above;
@@ -67,7 +67,7 @@ pub fn lowest_or(w: u64, at: u8, above: Item) -> Item
 
 // The highest item of a word whose first item is `at`, or else what the words below have.
 pub fn highest_or(w: u64, at: u8, below: Item) -> Item
-    ensures { result ≡ (if eqb w 0 then below else Item.At (at + (63 - count_leading_zeros 64 w))) }
+    ensures { result ≡ (when eqb w 0 then below else Item.At (at + (63 - count_leading_zeros 64 w))) }
 {
     if w == 0 {
         return below;

@@ -5,7 +5,7 @@ ghost use Rattle.std.specs.Int.Count.{ones};
 ghost use Rattle.sets.specs.Extremes.{highest, lowest};
 ghost use Rattle.sets_128.specs.Held.{set128};
 ghost use Rattle.sets.specs.Sets.{has, ◌∩◌, ◌∪◌, ◌∖◌, single, subset, proper_subset, collect};
-ghost use Rattle.sets.specs.Truth.{if◌then◌else◌};
+ghost use Rattle.sets.specs.Truth.{when◌then◌else◌};
 ghost use Rattle.sets.specs.Words.{value, word};
 
 use sets::{Item, bit_at, count_of, highest_or, less_or, lowest_or, mask_below, place_of};
@@ -31,7 +31,7 @@ impl Set128 {
 
     // The one item i; past the width there is none.
     pub fn only(i: usize) -> Self
-        ensures { set128 result ≡ (if ltb i 128 then single i else 0) }
+        ensures { set128 result ≡ (when ltb i 128 then single i else 0) }
     {
         Self {
             words: [bit_at(i, 0), bit_at(i, 1)],
@@ -64,7 +64,7 @@ impl Set128 {
 
     // An item past the width is left out.
     pub fn insert(self, i: usize) -> Self
-        ensures { set128 result ≡ (if ltb i 128 then set128 self ∪ single i else set128 self) }
+        ensures { set128 result ≡ (when ltb i 128 then set128 self ∪ single i else set128 self) }
     {
         self.union(Set128::only(i))
     }

@@ -5,7 +5,7 @@ ghost use Rattle.std.specs.Int.Count.{ones};
 ghost use Rattle.sets.specs.Extremes.{highest, lowest};
 ghost use Rattle.sets_256.specs.Held.{set256};
 ghost use Rattle.sets.specs.Sets.{has, ◌∩◌, ◌∪◌, ◌∖◌, single, subset, proper_subset, collect};
-ghost use Rattle.sets.specs.Truth.{if◌then◌else◌};
+ghost use Rattle.sets.specs.Truth.{when◌then◌else◌};
 ghost use Rattle.sets.specs.Words.{value, word};
 
 use sets::{Item, bit_at, count_of, highest_or, less_or, lowest_or, mask_below, place_of};
@@ -31,7 +31,7 @@ impl Set256 {
 
     // The one item i; past the width there is none.
     pub fn only(i: usize) -> Self
-        ensures { set256 result ≡ (if ltb i 256 then single i else 0) }
+        ensures { set256 result ≡ (when ltb i 256 then single i else 0) }
     {
         Self {
             words: [bit_at(i, 0), bit_at(i, 1), bit_at(i, 2), bit_at(i, 3)],
@@ -69,7 +69,7 @@ impl Set256 {
 
     // An item past the width is left out.
     pub fn insert(self, i: usize) -> Self
-        ensures { set256 result ≡ (if ltb i 256 then set256 self ∪ single i else set256 self) }
+        ensures { set256 result ≡ (when ltb i 256 then set256 self ∪ single i else set256 self) }
     {
         self.union(Set256::only(i))
     }

@@ -10,8 +10,8 @@ use native.Mathlib.Omega.{arith}
 use lib.Dec.{eqb, leb}
 use lib.ListN.{length, get_or, length-append, get_or-append}
 use lib.Seq.{ext_get_or, get_or-append-add}
-use Rattle.sets.specs.Truth.{if◌then◌else◌, all}
-use Rattle.sets.proofs.Truth.{by_test, if-true, if-false, not-So, and_iff, all_of, all_is, all_through, eqb_iff, leb_iff, either}
+use Rattle.sets.specs.Truth.{when◌then◌else◌, all}
+use Rattle.sets.proofs.Truth.{by_test, when-true, when-false, not-So, and_iff, all_of, all_is, all_through, eqb_iff, leb_iff, either}
 use Rattle.text.specs.declared.field.Field.{Field}
 use Rattle.text.specs.declared.field.Field.TheVariants.{Ends, Missing}
 use Rattle.text.specs.Fixed.{holds, fixed_at, line_end, line_end_at}
@@ -104,21 +104,21 @@ module _ (text : List ℕ) (at : ℕ) (bytes : List ℕ) (i : ℕ) where
 
 -- ---- a field, by the test t that tells whether it is there; it would end at e
 
-pub field_of : (t b : Bool) (e : ℕ) → b ≡ t → b ≡ true → Ends e ≡ (if t then Ends e else Missing)
-field_of t b e h s = sym (if-true t (Ends e) Missing (sym h ∙ s))
+pub field_of : (t b : Bool) (e : ℕ) → b ≡ t → b ≡ true → Ends e ≡ (when t then Ends e else Missing)
+field_of t b e h s = sym (when-true t (Ends e) Missing (sym h ∙ s))
 
-pub no_field_of : (t b : Bool) (e : ℕ) → b ≡ t → b ≡ false → Missing ≡ (if t then Ends e else Missing)
-no_field_of t b e h s = sym (if-false t (Ends e) Missing (sym h ∙ s))
+pub no_field_of : (t b : Bool) (e : ℕ) → b ≡ t → b ≡ false → Missing ≡ (when t then Ends e else Missing)
+no_field_of t b e h s = sym (when-false t (Ends e) Missing (sym h ∙ s))
 
-module _ {t : Bool} (e : ℕ) {r : Field} (h : r ≡ (if t then Ends e else Missing)) where
+module _ {t : Bool} (e : ℕ) {r : Field} (h : r ≡ (when t then Ends e else Missing)) where
   pub field_there : {k : ℕ} → r ≡ Ends k → (t ≡ true) × (k ≡ e)
   field_there {k} a =
-      by_test t (λ s. (s, let q : Ends k ≡ Ends e = sym a ∙ h ∙ if-true t (Ends e) Missing s in cc))
-      (λ s. let q : Ends k ≡ Missing = sym a ∙ h ∙ if-false t (Ends e) Missing s in let z : ◌≡◌ {A = ℕ} 0 1 = cc in absurd (omega arith))
+      by_test t (λ s. (s, let q : Ends k ≡ Ends e = sym a ∙ h ∙ when-true t (Ends e) Missing s in cc))
+      (λ s. let q : Ends k ≡ Missing = sym a ∙ h ∙ when-false t (Ends e) Missing s in let z : ◌≡◌ {A = ℕ} 0 1 = cc in absurd (omega arith))
 
   pub field_missing : r ≡ Missing → t ≡ false
   field_missing a =
-      by_test t (λ s. let q : Missing ≡ Ends e = sym a ∙ h ∙ if-true t (Ends e) Missing s in let z : ◌≡◌ {A = ℕ} 0 1 = cc in absurd (omega arith))
+      by_test t (λ s. let q : Missing ≡ Ends e = sym a ∙ h ∙ when-true t (Ends e) Missing s in let z : ◌≡◌ {A = ℕ} 0 1 = cc in absurd (omega arith))
       (λ s. s)
 
 module _ (text : List ℕ) (at : ℕ) (bytes : List ℕ) {r : Field} (h : r ≡ fixed_at text at bytes) where

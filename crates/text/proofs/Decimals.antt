@@ -10,8 +10,8 @@ use native.Mathlib.Omega.{arith}
 use lib.Dec.{ltb}
 use lib.ListN.{length, set, length-append}
 use borrow.Author.Tests.{lt-ltb, le-ltb, eq-eqb, ne_eqb}
-use Rattle.sets.specs.Truth.{if◌then◌else◌}
-use Rattle.sets.proofs.Truth.{if-true, if-false, if-passes, if_stops, either}
+use Rattle.sets.specs.Truth.{when◌then◌else◌}
+use Rattle.sets.proofs.Truth.{when-true, when-false, when-passes, when_stops, either}
 use Rattle.text.specs.declared.decimal.Decimal.TheVariants.{Number, Nothing}
 use Rattle.text.specs.Digits.{digit_at, digit_byte}
 use Rattle.text.specs.Decimal.{decimal_digit, decimal_at, decimal_of, decimal}
@@ -31,18 +31,18 @@ decimal_no text at h = le-ltb (digit_at text at) 10 h
 module _ (text : List ℕ) (at : ℕ) where
   pub decimal_none : {a : ℕ} → a ≡ digit_at text at → 10 ≤ a → Nothing ≡ decimal_at text at
   unfolding decimal_at
-  decimal_none ea h = sym (if_stops _ _ _ (decimal_no text at (rw ea at h)))
+  decimal_none ea h = sym (when_stops _ _ _ (decimal_no text at (rw ea at h)))
 
   pub decimal_one : {a b : ℕ} → a ≡ digit_at text at → a < 10 → b ≡ digit_at text (at + 1) → 10 ≤ b → Number a (at + 1) ≡ decimal_at text at
   unfolding decimal_at
-  decimal_one ea h eb k = rw ea (sym (if-passes _ _ _ (decimal_yes text at (rw ea at h)) ∙ if_stops _ _ _ (decimal_no text (at + 1) (rw eb at k))))
+  decimal_one ea h eb k = rw ea (sym (when-passes _ _ _ (decimal_yes text at (rw ea at h)) ∙ when_stops _ _ _ (decimal_no text (at + 1) (rw eb at k))))
 
   pub decimal_leading : {a b : ℕ} → a ≡ digit_at text at → a ≡ 0 → b ≡ digit_at text (at + 1) → b < 10 → Nothing ≡ decimal_at text at
   unfolding decimal_at
   decimal_leading ea z eb k =
       sym
-      (if-passes _ _ _ (decimal_yes text at (omega arith)) ∙ if-passes _ _ _ (decimal_yes text (at + 1) (rw eb at k))
-      ∙ if-true _ _ _ (eq-eqb (digit_at text at) 0 (omega arith)))
+      (when-passes _ _ _ (decimal_yes text at (omega arith)) ∙ when-passes _ _ _ (decimal_yes text (at + 1) (rw eb at k))
+      ∙ when-true _ _ _ (eq-eqb (digit_at text at) 0 (omega arith)))
 
   pub decimal_two : {a b c : ℕ} → a ≡ digit_at text at → a < 10 → a ≢ 0 → b ≡ digit_at text (at + 1) → b < 10 → c ≡ digit_at text (at + 2) → 10 ≤ c
       → Number (10 * a + b) (at + 2) ≡ decimal_at text at
@@ -50,8 +50,8 @@ module _ (text : List ℕ) (at : ℕ) where
   decimal_two ea ha na eb hb ec hc =
       rw (ea, eb)
       (sym
-      (if-passes _ _ _ (decimal_yes text at (rw ea at ha)) ∙ if-passes _ _ _ (decimal_yes text (at + 1) (rw eb at hb))
-      ∙ if-false _ _ _ (ne_eqb (digit_at text at) 0 (rw ea at na)) ∙ if_stops _ _ _ (decimal_no text (at + 2) (rw ec at hc))))
+      (when-passes _ _ _ (decimal_yes text at (rw ea at ha)) ∙ when-passes _ _ _ (decimal_yes text (at + 1) (rw eb at hb))
+      ∙ when-false _ _ _ (ne_eqb (digit_at text at) 0 (rw ea at na)) ∙ when_stops _ _ _ (decimal_no text (at + 2) (rw ec at hc))))
 
   -- three digits at the least, and the first is not 0
   module _ {a b c d : ℕ} (ea : a ≡ digit_at text at) (ha : a < 10) (na : a ≢ 0) (eb : b ≡ digit_at text (at + 1)) (hb : b < 10)
@@ -61,17 +61,17 @@ module _ (text : List ℕ) (at : ℕ) where
     decimal_three hd =
         rw (ea, eb, ec)
         (sym
-        (if-passes _ _ _ (decimal_yes text at (rw ea at ha)) ∙ if-passes _ _ _ (decimal_yes text (at + 1) (rw eb at hb))
-        ∙ if-false _ _ _ (ne_eqb (digit_at text at) 0 (rw ea at na)) ∙ if-passes _ _ _ (decimal_yes text (at + 2) (rw ec at hc))
-        ∙ if_stops _ _ _ (decimal_no text (at + 3) (rw ed at hd))))
+        (when-passes _ _ _ (decimal_yes text at (rw ea at ha)) ∙ when-passes _ _ _ (decimal_yes text (at + 1) (rw eb at hb))
+        ∙ when-false _ _ _ (ne_eqb (digit_at text at) 0 (rw ea at na)) ∙ when-passes _ _ _ (decimal_yes text (at + 2) (rw ec at hc))
+        ∙ when_stops _ _ _ (decimal_no text (at + 3) (rw ed at hd))))
 
     pub decimal_four : d < 10 → Nothing ≡ decimal_at text at
     unfolding decimal_at
     decimal_four hd =
         sym
-        (if-passes _ _ _ (decimal_yes text at (rw ea at ha)) ∙ if-passes _ _ _ (decimal_yes text (at + 1) (rw eb at hb))
-        ∙ if-false _ _ _ (ne_eqb (digit_at text at) 0 (rw ea at na)) ∙ if-passes _ _ _ (decimal_yes text (at + 2) (rw ec at hc))
-        ∙ if-passes _ _ _ (decimal_yes text (at + 3) (rw ed at hd)))
+        (when-passes _ _ _ (decimal_yes text at (rw ea at ha)) ∙ when-passes _ _ _ (decimal_yes text (at + 1) (rw eb at hb))
+        ∙ when-false _ _ _ (ne_eqb (digit_at text at) 0 (rw ea at na)) ∙ when-passes _ _ _ (decimal_yes text (at + 2) (rw ec at hc))
+        ∙ when-passes _ _ _ (decimal_yes text (at + 3) (rw ed at hd)))
 
 -- a digit lies inside the text
 pub decimal-inside : (text : List ℕ) (at : ℕ) {a : ℕ} → a ≡ digit_at text at → a < 10 → at < length text
@@ -81,11 +81,11 @@ decimal-inside text at ea h = digit_inside text at (omega arith)
 
 one_digit : (k v : ℕ) → v < 10 → decimal_of (suc k) v ≡ digit_byte (v % 10) ∷ []
 unfolding decimal_of
-one_digit k v h = ap (λ (xs : List ℕ). xs ++ (digit_byte (v % 10) ∷ [])) (if-true (ltb v 10) [] (decimal_of k (v / 10)) (lt-ltb v 10 h))
+one_digit k v h = ap (λ (xs : List ℕ). xs ++ (digit_byte (v % 10) ∷ [])) (when-true (ltb v 10) [] (decimal_of k (v / 10)) (lt-ltb v 10 h))
 
 one_more : (k v : ℕ) → 10 ≤ v → decimal_of (suc k) v ≡ decimal_of k (v / 10) ++ (digit_byte (v % 10) ∷ [])
 unfolding decimal_of
-one_more k v h = ap (λ (xs : List ℕ). xs ++ (digit_byte (v % 10) ∷ [])) (if-false (ltb v 10) [] (decimal_of k (v / 10)) (le-ltb v 10 h))
+one_more k v h = ap (λ (xs : List ℕ). xs ++ (digit_byte (v % 10) ∷ [])) (when-false (ltb v 10) [] (decimal_of k (v / 10)) (le-ltb v 10 h))
 
 -- more digits than enough make no difference
 decimal_enough : (k v : ℕ) → v < 10 ^ suc k → decimal_of (suc (suc k)) v ≡ decimal_of (suc k) v
@@ -93,7 +93,7 @@ unfolding decimal_of
 decimal_enough zero v h = one_digit 1 v (omega arith) ∙ sym (one_digit 0 v (omega arith))
 decimal_enough (suc k) v h =
     let p : 10 ^ suc (suc k) ≡ 10 ^ suc k * 10 = pow-suc 10 (suc k) in
-    ap (λ (xs : List ℕ). (if ltb v 10 then [] else xs) ++ (digit_byte (v % 10) ∷ [])) (decimal_enough k (v / 10) (omega arith))
+    ap (λ (xs : List ℕ). (when ltb v 10 then [] else xs) ++ (digit_byte (v % 10) ∷ [])) (decimal_enough k (v / 10) (omega arith))
 
 pub decimal_short : (v : ℕ) → v < 10 → decimal v ≡ digit_byte v ∷ []
 unfolding decimal

@@ -8,8 +8,8 @@ use native.Mathlib.Omega.{arith}
 use lib.Dec.{leb, ltb}
 use lib.ListN.{length, get_or, get_or-eq_default}
 use borrow.Author.Tests.{lt-ltb, le-ltb}
-use Rattle.sets.specs.Truth.{◌and◌, if◌then◌else◌}
-use Rattle.sets.proofs.Truth.{not-So, reflect, if-true, if-false, either}
+use Rattle.sets.specs.Truth.{◌and◌, when◌then◌else◌}
+use Rattle.sets.proofs.Truth.{not-So, reflect, when-true, when-false, either}
 use Rattle.text.specs.Digits.{digit_byte, digit_of, digit_at}
 
 -- a byte outside a range of bytes
@@ -23,25 +23,25 @@ in_range : (lo hi b : ℕ) → lo ≤ b → b ≤ hi → So (leb lo b and leb b 
 in_range lo hi b l h = simp reflect (l, h)
 
 module _ (b : ℕ) where
-  no_decimal : (leb 48 b and leb b 57) ≡ false → digit_of b ≡ (if leb 97 b and leb b 102 then b - 87 else 16)
+  no_decimal : (leb 48 b and leb b 57) ≡ false → digit_of b ≡ (when leb 97 b and leb b 102 then b - 87 else 16)
   unfolding digit_of
-  no_decimal e = if-false (leb 48 b and leb b 57) (b - 48) (if leb 97 b and leb b 102 then b - 87 else 16) e
+  no_decimal e = when-false (leb 48 b and leb b 57) (b - 48) (when leb 97 b and leb b 102 then b - 87 else 16) e
 
-  no_letter : (leb 97 b and leb b 102) ≡ false → (if leb 97 b and leb b 102 then b - 87 else 16) ≡ 16
-  no_letter e = if-false (leb 97 b and leb b 102) (b - 87) 16 e
+  no_letter : (leb 97 b and leb b 102) ≡ false → (when leb 97 b and leb b 102 then b - 87 else 16) ≡ 16
+  no_letter e = when-false (leb 97 b and leb b 102) (b - 87) 16 e
 
   pub digit_low : b < 48 → digit_of b ≡ 16
   digit_low h = no_decimal (below_range 48 57 b h) ∙ no_letter (below_range 97 102 b (omega arith))
 
   pub digit_decimal : 48 ≤ b → b ≤ 57 → digit_of b ≡ b - 48
   unfolding digit_of
-  digit_decimal l h = if-true (leb 48 b and leb b 57) (b - 48) (if leb 97 b and leb b 102 then b - 87 else 16) (in_range 48 57 b l h)
+  digit_decimal l h = when-true (leb 48 b and leb b 57) (b - 48) (when leb 97 b and leb b 102 then b - 87 else 16) (in_range 48 57 b l h)
 
   pub digit_between : 57 < b → b < 97 → digit_of b ≡ 16
   digit_between l h = no_decimal (above_range 48 57 b l) ∙ no_letter (below_range 97 102 b h)
 
   pub digit_letter : 97 ≤ b → b ≤ 102 → digit_of b ≡ b - 87
-  digit_letter l h = no_decimal (above_range 48 57 b (omega arith)) ∙ if-true (leb 97 b and leb b 102) (b - 87) 16 (in_range 97 102 b l h)
+  digit_letter l h = no_decimal (above_range 48 57 b (omega arith)) ∙ when-true (leb 97 b and leb b 102) (b - 87) 16 (in_range 97 102 b l h)
 
   pub digit_high : 102 < b → digit_of b ≡ 16
   digit_high l = no_decimal (above_range 48 57 b (omega arith)) ∙ no_letter (above_range 97 102 b l)
@@ -60,11 +60,11 @@ module _ (b : ℕ) where
 
 pub byte_decimal : (d : ℕ) → d < 10 → digit_byte d ≡ 48 + d
 unfolding digit_byte
-byte_decimal d h = if-true (ltb d 10) (48 + d) (87 + d) (lt-ltb d 10 h)
+byte_decimal d h = when-true (ltb d 10) (48 + d) (87 + d) (lt-ltb d 10 h)
 
 pub byte_letter : (d : ℕ) → 10 ≤ d → digit_byte d ≡ 87 + d
 unfolding digit_byte
-byte_letter d h = if-false (ltb d 10) (48 + d) (87 + d) (le-ltb d 10 h)
+byte_letter d h = when-false (ltb d 10) (48 + d) (87 + d) (le-ltb d 10 h)
 
 -- what was written is read back
 pub digit_back : (d : ℕ) → d < 16 → digit_of (digit_byte d) ≡ d

@@ -1,7 +1,7 @@
 -- "Decimals have one to three digits and no leading zero; zero is the one digit 0."
 -- Assumes nothing.
 use Rattle.std.specs.Prelude.{Bool, List, [], ◌∷◌, ◌++◌, ℕ, zero, suc, ◌+◌, ◌*◌, ◌/◌, ◌%◌, eqb, ltb}
-use Rattle.sets.specs.Truth.{if◌then◌else◌, isnt}
+use Rattle.sets.specs.Truth.{when◌then◌else◌, isnt}
 use Rattle.text.specs.declared.decimal.Decimal.{Decimal}
 use Rattle.text.specs.declared.decimal.Decimal.TheVariants.{Number, Nothing}
 use Rattle.text.specs.Digits.{digit_byte, digit_at}
@@ -16,17 +16,17 @@ decimal_at text at =
     let a = digit_at text at in
     let b = digit_at text (at + 1) in
     let c = digit_at text (at + 2) in
-    if isnt (decimal_digit text at) then Nothing
-    else if isnt (decimal_digit text (at + 1)) then Number a (at + 1)
-    else if eqb a 0 then Nothing
-    else if isnt (decimal_digit text (at + 2)) then Number (10 * a + b) (at + 2)
-    else if isnt (decimal_digit text (at + 3)) then Number (100 * a + 10 * b + c) (at + 3)
+    when isnt (decimal_digit text at) then Nothing
+    else when isnt (decimal_digit text (at + 1)) then Number a (at + 1)
+    else when eqb a 0 then Nothing
+    else when isnt (decimal_digit text (at + 2)) then Number (10 * a + b) (at + 2)
+    else when isnt (decimal_digit text (at + 3)) then Number (100 * a + 10 * b + c) (at + 3)
     else Nothing
 
 -- the bytes of v in decimal, where k digits are enough
 unfoldable pub decimal_of : ℕ → ℕ → List ℕ
 decimal_of zero v = []
-decimal_of (suc k) v = (if ltb v 10 then [] else decimal_of k (v / 10)) ++ (digit_byte (v % 10) ∷ [])
+decimal_of (suc k) v = (when ltb v 10 then [] else decimal_of k (v / 10)) ++ (digit_byte (v % 10) ∷ [])
 
 -- a number of 64 bits has at most 20 digits
 unfoldable pub decimal : ℕ → List ℕ

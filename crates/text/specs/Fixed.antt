@@ -1,7 +1,7 @@
 -- Fixed bytes in a text.
 -- Assumes nothing.
 use Rattle.std.specs.Prelude.{Bool, List, [], ◌∷◌, ℕ, ◌+◌, eqb, leb, length, get_or}
-use Rattle.sets.specs.Truth.{◌and◌, if◌then◌else◌, all}
+use Rattle.sets.specs.Truth.{◌and◌, when◌then◌else◌, all}
 use Rattle.text.specs.declared.field.Field.{Field}
 use Rattle.text.specs.declared.field.Field.TheVariants.{Ends, Missing}
 
@@ -11,7 +11,7 @@ holds text at bytes = leb (at + length bytes) (length text) and all (length byte
 
 -- the field of these bytes: the place after them where the text holds them
 unfoldable pub fixed_at : List ℕ → ℕ → List ℕ → Field
-fixed_at text at bytes = if holds text at bytes then Ends (at + length bytes) else Missing
+fixed_at text at bytes = when holds text at bytes then Ends (at + length bytes) else Missing
 
 -- "each line ended by byte 10", fields "parted by commas"
 abbrev pub line_end : List ℕ

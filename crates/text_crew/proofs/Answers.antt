@@ -13,7 +13,7 @@ use lib.ListN.{length, length-append}
 use borrow.Author.Tests.{eq-eqb, ne_eqb, le-leb, lt-leb}
 use lib.Pow.{pow_pos}
 use Rattle.sets.specs.Sets.{subset, collect}
-use Rattle.sets.proofs.Truth.{same_test, ltb_iff, if-true, if-false, if-passes, if_stops}
+use Rattle.sets.proofs.Truth.{same_test, ltb_iff, when-true, when-false, when-passes, when_stops}
 use Rattle.sets.proofs.Items.{item_below}
 use Rattle.sets.proofs.Order.{subset_iff, subset-≤, collect_iff}
 use Rattle.sets.proofs.Below.{collect-below}
@@ -92,7 +92,7 @@ module _ (text : List ℕ) (m start u at : ℕ) (words : List ℕ) (f : Filling 
   fill_more digits s after h e es k w =
       record {
         rows = f.rows ++ (s ∷ []);
-        read = rw (add-one u, step (Digits digits) e, ← es) (if-true _ _ _ k);
+        read = rw (add-one u, step (Digits digits) e, ← es) (when-true _ _ _ k);
         count = let n : length (f.rows ++ (s ∷ [])) ≡ length f.rows + 1 = length-append f.rows (s ∷ []) in omega (arith, f.count);
         held = w ∙ rw f.held (laid_more f.rows u s f.count h);
       }
@@ -111,7 +111,7 @@ module _ (text : List ℕ) (m start u at : ℕ) (words : List ℕ) (f : Filling 
   unfolding with_row rows_end RowsLaid
   fill_bit n digits s after h e es b =
       let k : suc u + (n - suc u) ≡ n = omega arith in
-      let q : rows_to text m start (suc u) ≡ bad_bit = rw (step (Digits digits) e, ← es) (if-false _ _ _ b) in
+      let q : rows_to text m start (suc u) ≡ bad_bit = rw (step (Digits digits) e, ← es) (when-false _ _ _ b) in
       let r : rows_to text m start n ≡ bad_bit = rw k at (bit_stays text m start u q (n - suc u)) in
       rw r (refl, tt)
 
@@ -131,7 +131,7 @@ module _ (text buffer : List ℕ) (n m : ℕ) where
   after_more (rows_read rows end) at e h =
       let p : at ≡ end = cc in
       sym
-      (if-false (eqb end (length text)) (record { code = 0; n = n; m = m; words = laid rows }) (read_refused 10 buffer)
+      (when-false (eqb end (length text)) (record { code = 0; n = n; m = m; words = laid rows }) (read_refused 10 buffer)
       (ne_eqb end (length text) (λ (q : end ≡ length text). h (p ∙ q))))
   after_more bad_form at e h = let z : ◌≡◌ {A = ℕ} 0 1 = cc in absurd (omega arith)
   after_more bad_bit at e h = let z : ◌≡◌ {A = ℕ} 0 1 = cc in absurd (omega arith)
@@ -143,7 +143,7 @@ module _ (text buffer : List ℕ) (n m : ℕ) where
       let p : at ≡ end = cc in
       rw f
       (sym
-      (if-true (eqb end (length text)) (record { code = 0; n = n; m = m; words = laid rows }) (read_refused 10 buffer)
+      (when-true (eqb end (length text)) (record { code = 0; n = n; m = m; words = laid rows }) (read_refused 10 buffer)
       (eq-eqb end (length text) (sym p ∙ h))))
   after_all bad_form at words e f h = let z : ◌≡◌ {A = ℕ} 0 1 = cc in absurd (omega arith)
   after_all bad_bit at words e f h = let z : ◌≡◌ {A = ℕ} 0 1 = cc in absurd (omega arith)
@@ -163,19 +163,19 @@ module _ (text buffer : List ℕ) (n m : ℕ) where
 module _ (text buffer : List ℕ) where
   pub wrong_buffer : length buffer ≢ buffer_length → read_refused 3 buffer ≡ read_crew text buffer
   unfolding read_crew
-  wrong_buffer h = sym (if_stops _ _ _ (ne_eqb (length buffer) buffer_length h))
+  wrong_buffer h = sym (when_stops _ _ _ (ne_eqb (length buffer) buffer_length h))
 
   module _ (b : length buffer ≡ buffer_length) where
     pub too_long : longest_text < length text → read_refused 10 buffer ≡ read_crew text buffer
     unfolding read_crew
-    too_long h = sym (if-passes _ _ _ (eq-eqb (length buffer) buffer_length b) ∙ if_stops _ _ _ (lt-leb (length text) longest_text h))
+    too_long h = sym (when-passes _ _ _ (eq-eqb (length buffer) buffer_length b) ∙ when_stops _ _ _ (lt-leb (length text) longest_text h))
 
     module _ (l : length text ≤ longest_text) where
       by_header : {h : Header} → header_at text ≡ h → after_header text buffer h ≡ read_crew text buffer
       unfolding read_crew
       by_header e =
           sym
-          (if-passes _ _ _ (eq-eqb (length buffer) buffer_length b) ∙ if-passes _ _ _ (le-leb (length text) longest_text l) ∙ ap (after_header text buffer) e)
+          (when-passes _ _ _ (eq-eqb (length buffer) buffer_length b) ∙ when-passes _ _ _ (le-leb (length text) longest_text l) ∙ ap (after_header text buffer) e)
 
       pub by_crew : {n m at : ℕ} → header_at text ≡ Crew n m at → after_rows text buffer n m (rows_to text m at n) ≡ read_crew text buffer
       unfolding after_header

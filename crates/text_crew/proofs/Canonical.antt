@@ -11,7 +11,7 @@ use lib.ListN.{length, get_or, take, length-append, get_or-append}
 use lib.Pow.{pow_mono}
 use lib.Seq.{take-suc, take_all, get_or-append_seam, ext_get_or}
 use borrow.Author.Tests.{eq-eqb, ne_eqb}
-use Rattle.sets.proofs.Truth.{all_is, all_of, ltb_iff, either, equal_or, below_suc, if-true, if-false, if_cases}
+use Rattle.sets.proofs.Truth.{all_is, all_of, ltb_iff, either, equal_or, below_suc, when-true, when-false, when_cases}
 use Rattle.model.specs.Lists.{rows_at}
 use Rattle.model.specs.State.{within_limits, rows_within}
 use Rattle.model.proofs.Lists.{set_at_words, length-rows_at, get_d_rows_at}
@@ -88,7 +88,7 @@ add_read : (text : List ℕ) (m u : ℕ) (xs : List ℕ) (p digits s : ℕ) → 
     → hexadecimal_value (digits_for m) text digits ≡ s → So (ltb s (2 ^ m))
     → next_row text m u (rows_read xs p) ≡ rows_read (xs ++ (s ∷ [])) (digits + digits_for m + 1)
 unfolding next_row with_row
-add_read text m u xs p digits s e f c = rw (e, f) (if-true _ _ _ c)
+add_read text m u xs p digits s e f c = rw (e, f) (when-true _ _ _ c)
 
 -- the rows of a canonical text
 pub rows_read_lem : (text : List ℕ) (m at : ℕ) (rows : List ℕ) (n : ℕ) → n ≤ length rows → n ≤ 128 → ((u : ℕ) → u < n → get_or rows u 0 < 2 ^ m)
@@ -112,7 +112,7 @@ rows_read_lem text m at rows (suc u) l k b h =
 whole_read : (text buffer : List ℕ) (n m : ℕ) (rows : List ℕ) (end : ℕ) → end ≡ length text
     → after_rows text buffer n m (rows_read rows end) ≡ record { code = 0; n = n; m = m; words = laid rows }
 unfolding after_rows
-whole_read text buffer n m rows end e = if-true _ _ _ (eq-eqb end (length text) e)
+whole_read text buffer n m rows end e = when-true _ _ _ (eq-eqb end (length text) e)
 
 -- the canonical text of a crew list within the limits reads back as that list
 pub read_back : (n m : ℕ) (rows buffer : List ℕ) → So (within_limits n m) → length rows ≡ n → So (rows_within m rows) → length buffer ≡ 512
@@ -246,7 +246,7 @@ module _ (text : List ℕ) (m at u : ℕ) (rows : List ℕ) (end : ℕ) where
   unfolding with_row
   by_row xs p f (Digits digits) e k =
       let s = hexadecimal_value (digits_for m) text digits in
-      if_cases (ltb s (2 ^ m)) (rows_read (xs ++ (s ∷ [])) (digits + digits_for m + 1)) bad_bit (rows_read rows end) k (by_bits xs p digits f e)
+      when_cases (ltb s (2 ^ m)) (rows_read (xs ++ (s ∷ [])) (digits + digits_for m + 1)) bad_bit (rows_read rows end) k (by_bits xs p digits f e)
       (λ t. λ (g : bad_bit ≡ rows_read rows end). let z : ◌≡◌ {A = ℕ} 0 1 = cc in absurd (omega arith))
   by_row xs p f Broken e k = let z : ◌≡◌ {A = ℕ} 0 1 = cc in absurd (omega arith)
 
@@ -330,7 +330,7 @@ module _ (text buffer : List ℕ) (z : (read_crew text buffer).code ≡ 0) where
   by_end n m at e (rows_read rows end) r a =
       equal_or end (length text)
       (λ l. all_rows n m at e rows end r (sym (whole_read text buffer n m rows end l) ∙ a) l)
-      (λ d. refused_not text buffer 9 (sym (if-false (eqb end (length text)) (record { code = 0; n = n; m = m; words = laid rows }) (read_refused 10 buffer) (ne_eqb end (length text) d)) ∙ a) z)
+      (λ d. refused_not text buffer 9 (sym (when-false (eqb end (length text)) (record { code = 0; n = n; m = m; words = laid rows }) (read_refused 10 buffer) (ne_eqb end (length text) d)) ∙ a) z)
   by_end n m at e bad_form r a = refused_not text buffer 9 a z
   by_end n m at e bad_bit r a = refused_not text buffer 2 a z
 

@@ -13,7 +13,7 @@ use lib.Seq.{take_all, get_or-append-add, get_or-drop}
 use borrow.Author.Tests.{ltb-false, le-ltb, eqb-false}
 use Rattle.sets.specs.Sets.{has}
 use Rattle.sets.specs.Words.{word}
-use Rattle.sets.proofs.Truth.{not-So, So-not, if_cases, either, equal_or}
+use Rattle.sets.proofs.Truth.{not-So, So-not, when_cases, either, equal_or}
 use Rattle.sets.proofs.Items.{has-zero, item_below, below_of_items, item_of}
 use Rattle.sets.proofs.Words.{word-zero, word_lt, has_shift}
 use Rattle.model.specs.Lists.{OneOf}
@@ -103,7 +103,7 @@ above_big m x p l t = either x (2 ^ m) (λ b. let z : p < m = item_below m x p b
 limited_formed : (n m at : ℕ) → limited n m at ≡ Malformed → ⊥
 unfolding limited
 limited_formed n m at e =
-    if_cases (within_limits n m) (Crew n m at) Beyond Malformed e
+    when_cases (within_limits n m) (Crew n m at) Beyond Malformed e
     (λ t. λ (f : Crew n m at ≡ Malformed). let z : ◌≡◌ {A = ℕ} 0 1 = cc in let no : ⊥ = omega arith in no)
     (λ t. λ (f : Beyond ≡ Malformed). let z : ◌≡◌ {A = ℕ} 0 1 = cc in let no : ⊥ = omega arith in no)
 
@@ -270,7 +270,7 @@ fault_form : (text : List ℕ) (m : ℕ) (rows : List ℕ) (o : Row) → with_ro
 unfolding with_row
 fault_form text m rows (Digits digits) e =
     let s = hexadecimal_value (digits_for m) text digits in
-    if_cases (ltb s (2 ^ m)) (rows_read (rows ++ (s ∷ [])) (digits + digits_for m + 1)) bad_bit bad_form e
+    when_cases (ltb s (2 ^ m)) (rows_read (rows ++ (s ∷ [])) (digits + digits_for m + 1)) bad_bit bad_form e
     (λ t. λ (f : rows_read (rows ++ (s ∷ [])) (digits + digits_for m + 1) ≡ bad_form). let z : ◌≡◌ {A = ℕ} 0 1 = cc in absurd (omega arith))
     (λ t. λ (f : bad_bit ≡ bad_form). let z : ◌≡◌ {A = ℕ} 0 1 = cc in absurd (omega arith))
 fault_form text m rows Broken e = refl
@@ -280,7 +280,7 @@ fault_bit : (text : List ℕ) (m : ℕ) (rows : List ℕ) (o : Row) → with_row
 unfolding with_row
 fault_bit text m rows (Digits digits) e =
     let s = hexadecimal_value (digits_for m) text digits in
-    if_cases (ltb s (2 ^ m)) (rows_read (rows ++ (s ∷ [])) (digits + digits_for m + 1)) bad_bit bad_bit e
+    when_cases (ltb s (2 ^ m)) (rows_read (rows ++ (s ∷ [])) (digits + digits_for m + 1)) bad_bit bad_bit e
     (λ t. λ (f : rows_read (rows ++ (s ∷ [])) (digits + digits_for m + 1) ≡ bad_bit). let z : ◌≡◌ {A = ℕ} 0 1 = cc in absurd (omega arith))
     (λ t f. (digits, refl, t))
 fault_bit text m rows Broken e = let z : ◌≡◌ {A = ℕ} 0 1 = cc in absurd (omega arith)
@@ -353,7 +353,7 @@ module _ (text buffer : List ℕ) where
       → after_rows text buffer n m o ≡ read_crew text buffer → Outcome text buffer
   unfolding after_rows
   rows_outcome j n m at e (rows_read rows end) r a =
-      if_cases (eqb end (length text)) (record { code = 0; n = n; m = m; words = laid rows }) (read_refused 10 buffer) (read_crew text buffer) a
+      when_cases (eqb end (length text)) (record { code = 0; n = n; m = m; words = laid rows }) (read_refused 10 buffer) (read_crew text buffer) a
       (λ t f. good (ap (λ (x : ReadReply). x.code) (sym f)))
       (λ t f. form f (◌⊎◌.inr (j, ◌⊎◌.inr (◌⊎◌.inr (more_bytes text n m at e rows end r (eqb-false end (length text) t))))))
   rows_outcome j n m at e bad_form r a = form a (◌⊎◌.inr (j, ◌⊎◌.inr (◌⊎◌.inl (row_broken text n m at e r))))

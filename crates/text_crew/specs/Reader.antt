@@ -2,7 +2,7 @@
 -- line its form, 10, before its limits: 2 for the header, 3 for a row; then more bytes, 10"
 -- Assumes nothing.
 use Rattle.std.specs.Prelude.{◌≡◌, List, [], ◌∷◌, ◌++◌, ℕ, zero, suc, ◌+◌, ◌^◌, eqb, leb, ltb, length, get_or}
-use Rattle.sets.specs.Truth.{isnt, if◌then◌else◌}
+use Rattle.sets.specs.Truth.{isnt, when◌then◌else◌}
 use Rattle.model.specs.Lists.{tabulate}
 use Rattle.model.specs.Record.{region_word}
 use Rattle.model.specs.Refusals.{outside_limits, wrong_crew_words, wrong_text}
@@ -36,7 +36,7 @@ pub data Read : Type 0 where
 unfoldable pub with_row : List ℕ → ℕ → List ℕ → Row → Read
 with_row text m rows (Digits at) =
     let s = hexadecimal_value (digits_for m) text at in
-    if ltb s (2 ^ m) then rows_read (rows ++ (s ∷ [])) (at + digits_for m + 1) else bad_bit
+    when ltb s (2 ^ m) then rows_read (rows ++ (s ∷ [])) (at + digits_for m + 1) else bad_bit
 with_row text m rows Broken = bad_form
 
 unfoldable pub next_row : List ℕ → ℕ → ℕ → Read → Read
@@ -68,7 +68,7 @@ laid rows = tabulate buffer_length (region_word 4 (λ u. get_or rows u 0))
 -- after the rows, no more bytes
 unfoldable pub after_rows : List ℕ → List ℕ → ℕ → ℕ → Read → ReadReply
 after_rows text buffer n m (rows_read rows at) =
-    if eqb at (length text) then record { code = 0; n = n; m = m; words = laid rows } else read_refused wrong_text buffer
+    when eqb at (length text) then record { code = 0; n = n; m = m; words = laid rows } else read_refused wrong_text buffer
 after_rows text buffer n m bad_form = read_refused wrong_text buffer
 after_rows text buffer n m bad_bit = read_refused wrong_crew_words buffer
 
@@ -80,8 +80,8 @@ after_header text buffer Beyond = read_refused outside_limits buffer
 -- the reader, on a text and a lent buffer
 unfoldable pub read_crew : List ℕ → List ℕ → ReadReply
 read_crew text buffer =
-    if isnt (eqb (length buffer) buffer_length) then read_refused wrong_crew_words buffer
-    else if isnt (leb (length text) longest_text) then read_refused wrong_text buffer
+    when isnt (eqb (length buffer) buffer_length) then read_refused wrong_crew_words buffer
+    else when isnt (leb (length text) longest_text) then read_refused wrong_text buffer
     else after_header text buffer (header_at text)
 
 -- ---- what the code gives

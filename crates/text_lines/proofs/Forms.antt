@@ -9,7 +9,7 @@ use native.Mathlib.Omega.{arith}
 use lib.Dec.{eqb}
 use lib.ListN.{length}
 use Rattle.sets.specs.Truth.{◌and◌}
-use Rattle.sets.proofs.Truth.{and_iff, eqb_iff, if_cases}
+use Rattle.sets.proofs.Truth.{and_iff, eqb_iff, when_cases}
 use Rattle.model.specs.State.{within_limits}
 use Rattle.text.specs.declared.decimal.Decimal.{Decimal}
 use Rattle.text.specs.declared.decimal.Decimal.TheVariants.{Number, Nothing}
@@ -48,7 +48,7 @@ module _ (text : List ℕ) (h : Header) (d : h ≢ Malformed) where
       → (o : Decimal) → decimal_at text (next + 1) ≡ o → header_end text n o ≡ h → HeaderSeen text h
   unfolding header_end
   header_second n next w a b (Number m end) c e =
-      if_cases (holds text end line_end) (limited n m (end + 1)) Malformed h e
+      when_cases (holds text end line_end) (limited n m (end + 1)) Malformed h e
       (λ l f.
       let form : HeaderForm text n m (end + 1) =
       record { next = next; end = end; word_there = w; users = a; comma_there = b; permissions = c; end_there = l; place = refl } in
@@ -59,7 +59,7 @@ module _ (text : List ℕ) (h : Header) (d : h ≢ Malformed) where
   header_first : So (holds text 0 crew_word) → (o : Decimal) → decimal_at text 5 ≡ o → header_rest text o ≡ h → HeaderSeen text h
   unfolding header_rest
   header_first w (Number n next) a e =
-      if_cases (holds text next comma) (header_end text n (decimal_at text (next + 1))) Malformed h e
+      when_cases (holds text next comma) (header_end text n (decimal_at text (next + 1))) Malformed h e
       (λ b. header_second n next w a b (decimal_at text (next + 1)) refl)
       (λ _ f. absurd (d (sym f)))
   header_first w Nothing a e = absurd (d (sym e))
@@ -67,7 +67,7 @@ module _ (text : List ℕ) (h : Header) (d : h ≢ Malformed) where
   pub header_seen : header_at text ≡ h → HeaderSeen text h
   unfolding header_at
   header_seen e =
-      if_cases (holds text 0 crew_word) (header_rest text (decimal_at text 5)) Malformed h e
+      when_cases (holds text 0 crew_word) (header_rest text (decimal_at text 5)) Malformed h e
       (λ w. header_first w (decimal_at text 5) refl)
       (λ _ f. absurd (d (sym f)))
 
@@ -75,7 +75,7 @@ pub header_form : (text : List ℕ) (n m at : ℕ) → header_at text ≡ Crew n
 unfolding limited
 header_form text n m at e =
     let s = header_seen text (Crew n m at) (λ f. let z : ◌≡◌ {A = ℕ} 0 1 = cc in omega arith) e in
-    if_cases (within_limits s.n s.m) (Crew s.n s.m s.at) Beyond (Crew n m at) s.limits
+    when_cases (within_limits s.n s.m) (Crew s.n s.m s.at) Beyond (Crew n m at) s.limits
     (λ t. λ (f : Crew s.n s.m s.at ≡ Crew n m at).
     let p : s.n ≡ n = cc in
     let q : s.m ≡ m = cc in
@@ -87,7 +87,7 @@ pub header_beyond : (text : List ℕ) → header_at text ≡ Beyond → (s : Hea
 unfolding limited
 header_beyond text e =
     let s = header_seen text Beyond (λ f. let z : ◌≡◌ {A = ℕ} 0 1 = cc in omega arith) e in
-    if_cases (within_limits s.n s.m) (Crew s.n s.m s.at) Beyond Beyond s.limits
+    when_cases (within_limits s.n s.m) (Crew s.n s.m s.at) Beyond Beyond s.limits
     (λ t. λ (f : Crew s.n s.m s.at ≡ Beyond). let z : ◌≡◌ {A = ℕ} 0 1 = cc in absurd (omega arith))
     (λ t _. (s, t))
 
@@ -109,7 +109,7 @@ row_some : (text : List ℕ) (d u at digits v next : ℕ) → decimal_at text at
     → RowForm text d u at digits
 unfolding row_rest
 row_some text d u at digits v next a e =
-    if_cases (eqb v u and holds text next comma and hexadecimal_at d text (next + 1) and holds text (next + 1 + d) line_end) (Digits (next + 1)) Broken (Digits digits) e
+    when_cases (eqb v u and holds text next comma and hexadecimal_at d text (next + 1) and holds text (next + 1 + d) line_end) (Digits (next + 1)) Broken (Digits digits) e
     (λ k. λ (f : Digits (next + 1) ≡ Digits digits).
     let p = (and_iff (eqb v u and holds text next comma and hexadecimal_at d text (next + 1)) (holds text (next + 1 + d) line_end)).0 k in
     let q = (and_iff (eqb v u and holds text next comma) (hexadecimal_at d text (next + 1))).0 p.0 in

@@ -6,8 +6,8 @@ use mathlib.Core.List.{List}
 use mathlib.Core.Logic.{◌≢◌}
 use Prim.Native.Nat.{ℕ, ◌+◌}
 use lib.Dec.{eqb}
-use Rattle.sets.specs.Truth.{◌and◌, if◌then◌else◌}
-use Rattle.sets.proofs.Truth.{not-So, So-not, reflect, if-true, if-false}
+use Rattle.sets.specs.Truth.{◌and◌, when◌then◌else◌}
+use Rattle.sets.proofs.Truth.{not-So, So-not, reflect, when-true, when-false}
 use Rattle.model.specs.State.{within_limits}
 use Rattle.text.specs.declared.decimal.Decimal.{Decimal}
 use Rattle.text.specs.declared.decimal.Decimal.TheVariants.{Number, Nothing}
@@ -28,35 +28,35 @@ use Rattle.text_lines.specs.Lines.{limited, header_end, header_rest, header_at, 
 
 pub limits_broken : (n m next : ℕ) → within_limits n m ≡ false → Beyond ≡ limited n m next
 unfolding limited
-limits_broken n m next h = sym (if-false (within_limits n m) (Crew n m next) Beyond h)
+limits_broken n m next h = sym (when-false (within_limits n m) (Crew n m next) Beyond h)
 
 pub limits_kept_lem : (n m next : ℕ) → So (within_limits n m) → Crew n m next ≡ limited n m next
 unfolding limited
-limits_kept_lem n m next h = sym (if-true (within_limits n m) (Crew n m next) Beyond h)
+limits_kept_lem n m next h = sym (when-true (within_limits n m) (Crew n m next) Beyond h)
 
 -- ---- the header, from the front
 
 module _ (text : List ℕ) where
   pub header_word_lem : holds text 0 crew_word ≡ false → Malformed ≡ header_at text
   unfolding header_at
-  header_word_lem a = sym (if-false _ _ _ a)
+  header_word_lem a = sym (when-false _ _ _ a)
 
   pub header_users : holds text 0 crew_word ≡ true → decimal_at text 5 ≡ Nothing → Malformed ≡ header_at text
   unfolding header_at header_rest
-  header_users a b = sym (if-true _ _ _ a ∙ ap (header_rest text) b)
+  header_users a b = sym (when-true _ _ _ a ∙ ap (header_rest text) b)
 
   module _ {n next : ℕ} (a : holds text 0 crew_word ≡ true) (b : decimal_at text 5 ≡ Number n next) where
     header_first : header_at text ≡ header_rest text (Number n next)
     unfolding header_at
-    header_first = if-true _ _ _ a ∙ ap (header_rest text) b
+    header_first = when-true _ _ _ a ∙ ap (header_rest text) b
 
     pub header_comma : holds text next comma ≡ false → Malformed ≡ header_at text
     unfolding header_rest
-    header_comma c = sym (header_first ∙ if-false _ _ _ c)
+    header_comma c = sym (header_first ∙ when-false _ _ _ c)
 
     header_second : {o : Decimal} → holds text next comma ≡ true → decimal_at text (next + 1) ≡ o → header_at text ≡ header_end text n o
     unfolding header_rest
-    header_second c d = header_first ∙ if-true _ _ _ c ∙ ap (header_end text n) d
+    header_second c d = header_first ∙ when-true _ _ _ c ∙ ap (header_end text n) d
 
     pub header_permissions : holds text next comma ≡ true → decimal_at text (next + 1) ≡ Nothing → Malformed ≡ header_at text
     unfolding header_end
@@ -65,12 +65,12 @@ module _ (text : List ℕ) where
     pub header_end_lem : {m end : ℕ} → holds text next comma ≡ true → decimal_at text (next + 1) ≡ Number m end → holds text end line_end ≡ false
         → Malformed ≡ header_at text
     unfolding header_end
-    header_end_lem c d e = sym (header_second c d ∙ if-false _ _ _ e)
+    header_end_lem c d e = sym (header_second c d ∙ when-false _ _ _ e)
 
     pub header_whole : {m end : ℕ} → holds text next comma ≡ true → decimal_at text (next + 1) ≡ Number m end → holds text end line_end ≡ true
         → limited n m (end + 1) ≡ header_at text
     unfolding header_end
-    header_whole c d e = sym (header_second c d ∙ if-true _ _ _ e)
+    header_whole c d e = sym (header_second c d ∙ when-true _ _ _ e)
 
 -- the same by what the fields' readers answer; after each field, what is known of the line so far
 
@@ -144,7 +144,7 @@ module _ (text : List ℕ) (d u at : ℕ) where
     abbrev form : Bool
     form = eqb v u and holds text next comma and hexadecimal_at d text (next + 1) and holds text (next + 1 + d) line_end
 
-    row_by : row_digits_at text d u at ≡ (if form then Digits (next + 1) else Broken)
+    row_by : row_digits_at text d u at ≡ (when form then Digits (next + 1) else Broken)
     unfolding row_digits_at row_rest
     row_by = ap (row_rest text d u) a
 
@@ -157,7 +157,7 @@ module _ (text : List ℕ) (d u at : ℕ) where
         let k : (((v ≡ u) × So (holds text next comma)) × So (hexadecimal_at d text (next + 1))) × So (holds text (next + 1 + d) line_end) =
         simp reflect at s in
         h k.0.0.0 k.0.0.1 k.0.1 k.1) in
-        sym (row_by ∙ if-false _ _ _ no)
+        sym (row_by ∙ when-false _ _ _ no)
 
     pub row_other : v ≢ u → Broken ≡ row_digits_at text d u at
     row_other b = row_fails (λ e _ _ _. b e)
@@ -175,7 +175,7 @@ module _ (text : List ℕ) (d u at : ℕ) where
 
       pub row_whole : holds text next comma ≡ true → hexadecimal_at d text (next + 1) ≡ true → holds text (next + 1 + d) line_end ≡ true
           → Digits (next + 1) ≡ row_digits_at text d u at
-      row_whole c e f = let ok : So form = simp reflect (((b, c), e), f) in sym (row_by ∙ if-true _ _ _ ok)
+      row_whole c e f = let ok : So form = simp reflect (((b, c), e), f) in sym (row_by ∙ when-true _ _ _ ok)
 
 -- the same by what the fields' readers answer
 

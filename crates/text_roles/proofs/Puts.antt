@@ -8,7 +8,7 @@ use native.Mathlib.Omega.{arith}
 use native.Mathlib.Numerals.{add-one}
 use lib.ListN.{length, get_or, length-append}
 use Rattle.sets.specs.Sets.{has}
-use Rattle.sets.proofs.Truth.{by_test, if-true, if-false}
+use Rattle.sets.proofs.Truth.{by_test, when-true, when-false}
 use Rattle.model.specs.Record.{juniors_start, members_start, permissions_start, sets_start}
 use Rattle.model.specs.Lists.{set_at}
 use Rattle.text.specs.Fixed.{comma, line_end}
@@ -82,19 +82,19 @@ line_most n m c k s p u j ln lm lc =
 
 pub standing_put : (l l' : List ℕ) (at r : ℕ) (ws : List ℕ) (k : ℕ) → So (has (set_at 2 ws 4) k) → Put l at (words_line ws k) l' r → Put l at (standing_line ws k) l' r
 unfolding standing_line
-standing_put l l' at r ws k h p = put_same _ _ _ _ _ _ (sym (if-true (has (set_at 2 ws 4) k) (words_line ws k) [] h)) p
+standing_put l l' at r ws k h p = put_same _ _ _ _ _ _ (sym (when-true (has (set_at 2 ws 4) k) (words_line ws k) [] h)) p
 
 pub absent_put : (l : List ℕ) (at : ℕ) (ws : List ℕ) (k : ℕ) → has (set_at 2 ws 4) k ≡ false → Put l at (standing_line ws k) l at
 unfolding standing_line
-absent_put l at ws k h = put_same _ _ _ _ _ _ (sym (if-false (has (set_at 2 ws 4) k) (words_line ws k) [] h)) (put_none l at)
+absent_put l at ws k h = put_same _ _ _ _ _ _ (sym (when-false (has (set_at 2 ws 4) k) (words_line ws k) [] h)) (put_none l at)
 
 pub standing_most : (ws : List ℕ) (k : ℕ) → Limited ws → length (standing_line ws k) ≤ 217
 unfolding standing_line words_line
 standing_most ws k b =
     let t = has (set_at 2 ws 4) k in
     by_test t
-    (λ y. let e = ap length (if-true t (words_line ws k) [] y) in let m = line_most _ _ _ _ _ _ _ _ b.users b.permissions b.candidates in rw e m)
-    (λ y. let e = ap length (if-false t (words_line ws k) [] y) in rw e (omega arith))
+    (λ y. let e = ap length (when-true t (words_line ws k) [] y) in let m = line_most _ _ _ _ _ _ _ _ b.users b.permissions b.candidates in rw e m)
+    (λ y. let e = ap length (when-false t (words_line ws k) [] y) in rw e (omega arith))
 
 pub lines_none : (l : List ℕ) (at : ℕ) (ws : List ℕ) → Put l at (words_lines ws 0) l at
 unfolding words_lines lines_to

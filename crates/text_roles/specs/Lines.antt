@@ -1,7 +1,7 @@
 -- The lines in which the lister prints roles, and a refusal.
 -- Assumes nothing.
 use Rattle.std.specs.Prelude.{List, [], ◌∷◌, ◌++◌, ℕ, zero, suc}
-use Rattle.sets.specs.Truth.{if◌then◌else◌}
+use Rattle.sets.specs.Truth.{when◌then◌else◌}
 use Rattle.sets.specs.Sets.{has}
 use Rattle.text.specs.Fixed.{comma, line_end}
 use Rattle.text.specs.Decimal.{decimal}
@@ -28,7 +28,7 @@ line n m c k set permissions members juniors =
 -- the lines of those roles below k that are in R
 unfoldable pub lines_to : ℕ → (ℕ → List ℕ) → ℕ → List ℕ
 lines_to R line_of zero = []
-lines_to R line_of (suc k) = lines_to R line_of k ++ (if has R k then line_of k else [])
+lines_to R line_of (suc k) = lines_to R line_of k ++ (when has R k then line_of k else [])
 
 -- "`roles,` with the standing count and q"
 unfoldable pub head_line : ℕ → ℕ → List ℕ

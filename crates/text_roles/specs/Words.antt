@@ -1,7 +1,7 @@
 -- The same lines, out of a record's words.
 -- Assumes nothing.
 use Rattle.std.specs.Prelude.{◌≡◌, List, [], ℕ, ◌+◌, ◌*◌, ◌≤◌, length, get_or}
-use Rattle.sets.specs.Truth.{if◌then◌else◌}
+use Rattle.sets.specs.Truth.{when◌then◌else◌}
 use Rattle.sets.specs.Sets.{has}
 use Rattle.model.specs.Lists.{set_at}
 use Rattle.model.specs.Record.{record_length, sets_start, permissions_start, members_start, juniors_start}
@@ -28,7 +28,7 @@ words_line ws k =
     (set_at 2 ws (members_start + 2 * k)) (set_at 2 ws (juniors_start + 2 * k))
 
 unfoldable pub standing_line : List ℕ → ℕ → List ℕ
-standing_line ws k = if has (set_at 2 ws 4) k then words_line ws k else []
+standing_line ws k = when has (set_at 2 ws 4) k then words_line ws k else []
 
 unfoldable pub words_lines : List ℕ → ℕ → List ℕ
 words_lines ws k = lines_to (set_at 2 ws 4) (words_line ws) k

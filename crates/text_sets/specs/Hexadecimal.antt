@@ -1,7 +1,7 @@
 -- Sets "in hexadecimal, lower case", with a given number of digits, "highest digit first".
 -- Assumes nothing.
 use Rattle.std.specs.Prelude.{Bool, List, [], ◌∷◌, ℕ, zero, suc, ◌+◌, ◌*◌, ◌/◌, ◌%◌, ◌^◌, leb, ltb, length}
-use Rattle.sets.specs.Truth.{◌and◌, if◌then◌else◌, all}
+use Rattle.sets.specs.Truth.{◌and◌, when◌then◌else◌, all}
 use Rattle.text.specs.declared.field.Field.{Field}
 use Rattle.text.specs.declared.field.Field.TheVariants.{Ends, Missing}
 use Rattle.text.specs.Digits.{digit_byte, digit_at}
@@ -12,7 +12,7 @@ hexadecimal_at d text at = leb (at + d) (length text) and all d (λ i. ltb (digi
 
 -- the field of d digits
 unfoldable pub hexadecimal_field : ℕ → List ℕ → ℕ → Field
-hexadecimal_field d text at = if hexadecimal_at d text at then Ends (at + d) else Missing
+hexadecimal_field d text at = when hexadecimal_at d text at then Ends (at + d) else Missing
 
 -- the number that the d digits from place `at` on make
 unfoldable pub hexadecimal_value : ℕ → List ℕ → ℕ → ℕ

@@ -2,11 +2,11 @@
 -- Assumes nothing.
 use native.Mathlib.Omega.{arith}
 use Rattle.sets.proofs.Extremes.{leading_lt}
-use Rattle.sets.proofs.Written.{if_equal, if_other}
+use Rattle.sets.proofs.Written.{when_equal, when_other}
 use Rattle.sets.proofs.word.highest_or.Goals as goal
 
 pub returns-then-w-eq0 : goal.returns-then-w-eq0
-returns-then-w-eq0 c = if_equal _ _ _ _ c.if-w-eq0.true
+returns-then-w-eq0 c = when_equal _ _ _ _ c.if-w-eq0.true
 
 pub overflow_cast-result-2 : goal.overflow_cast-result-2
 overflow_cast-result-2 c = omega (arith, leading_lt 64 c.args.w c.if-w-eq0.false c.ranges.w.fits)
@@ -15,4 +15,4 @@ pub overflow_sub-result : goal.overflow_sub-result
 overflow_sub-result c = omega (arith, leading_lt 64 c.args.w c.if-w-eq0.false c.ranges.w.fits)
 
 pub returns : goal.returns
-returns c = if_other _ _ _ _ c.if-w-eq0.false
+returns c = when_other _ _ _ _ c.if-w-eq0.false
