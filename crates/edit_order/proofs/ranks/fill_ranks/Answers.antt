@@ -47,12 +47,6 @@ overflow_add-end-2 c = let f = at-start (goal.at.overflow_add-end-2 c).Start in 
 pub slice_bounds-clear-count : goal.slice_bounds-clear-count
 slice_bounds-clear-count c = let f = at-start (goal.at.slice_bounds-clear-count c).Start in omega arith
 
--- LEFT slice-bounds-clear-start
--- let f = at-start c.before in omega arith
-
--- LEFT slice-bounds-clear-end
--- let f = at-start c.before in omega arith
-
 pub loop-counted-init : goal.loop-counted-init
 loop-counted-init c = sorting_start _ _ _ _ _ (blank (goal.at.loop-counted-init c).After-clear)
 

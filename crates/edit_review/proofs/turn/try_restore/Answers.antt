@@ -69,10 +69,6 @@ put_back_at-requires c = let given = c.requires in
     let room = given.rec_len in
     record { rec_len = room.0; index_len = room.1; seniors_len = room.2; k_bound = (number_known _ _ _ given.in_step.ready _ given.k_bound).1 }
 
--- LEFT overflow-add-t24
---     let l = (taken_up (missing (tried (kept (written c)).before).before)).requires.1.1.1.0.0 in
---     omega arith
-
 pub returns-then-quality-at : goal.returns-then-quality-at
 returns-then-quality-at c = let able = restorable (goal.at.returns-then-quality-at c).Else-contains in
     let ready = c.requires.in_step.ready in

@@ -1,7 +1,5 @@
 -- Each return is one of the cases of `decimal_at`.
 -- Assumes nothing.
--- from each digit back to the one before it
--- ---- the needs
 use Rattle.text.proofs.Decimals.{decimal_none, decimal_one, decimal_leading, decimal_two, decimal_three, decimal_four, decimal-inside}
 use native.Mathlib.Omega.{arith}
 use Rattle.text.proofs.decimal.read_decimal.Goals as goal
