@@ -9,8 +9,8 @@ GXX = install GCC for C++
 CARGO = install Rust with cargo
 PKGCONFIG = install pkg-config
 
-# $(call prove,CRATE,COMMAND): COMMAND in the folder of CRATE. What it says goes to target/CRATE.log, each crate that is proved is a line, and descriptor 3 is what a
-# program prints.
+# $(call prove,CRATE,COMMAND): COMMAND in the folder of CRATE. What it says goes to target/CRATE.log, and each crate that
+# is proved is a line here. What a program prints is sent to descriptor 3.
 prove = { { (cd crates/$(1) && $(2)); echo $$? > target/$(1).status; } 2>&1 | tee target/$(1).log \
 	| awk -f tools/progress.awk -v program=$(1) crates.txt - >&2; test "$$(cat target/$(1).status)" = 0; }
 
