@@ -1,12 +1,12 @@
 // What alters no record: the calls that read one, the reader and the writer of a crew text, and titles.
-use crate::lent::{MOST_BYTES, MOST_WORDS, lent, lent_bytes, widened};
+use crate::lent::{MOST_LENT, MOST_WORDS, lent, lent_bytes, widened};
 use panel::{panel_may, panel_quality, panel_read_crew, panel_write_crew};
 use std::io::{Read, Write};
 use streams::read_full;
 use test_input::{Unread, last_numbers};
 use test_support::{case, text, widen};
 
-const MOST_TEXT: usize = 4096;
+const MOST_BYTES: usize = 4096;
 
 fn quality<R: Read, W: Write>(from: &mut R, to: &mut W, rec: &[u64]) -> Result<(), Unread> {
     let mut w = [0u64; 4];
@@ -43,10 +43,10 @@ fn read<R: Read, W: Write>(from: &mut R, to: &mut W) -> Result<(), Unread> {
     last_numbers(from, &mut head)?;
     let size = head[0] as usize;
     let count = head[1] as usize;
-    if MOST_TEXT < size || MOST_WORDS < count {
+    if MOST_BYTES < size || MOST_WORDS < count {
         return Err(Unread::Line);
     }
-    let mut space = [0u8; MOST_TEXT];
+    let mut space = [0u8; MOST_BYTES];
     let mut words = lent();
     read_bytes(from, to, &mut space[..size], &mut words[..count])
 }
@@ -77,7 +77,7 @@ fn write<R: Read, W: Write>(from: &mut R, to: &mut W, rec: &[u64]) -> Result<(),
     let mut head = [0u64; 1];
     last_numbers(from, &mut head)?;
     let count = head[0] as usize;
-    if MOST_BYTES < count {
+    if MOST_LENT < count {
         return Err(Unread::Line);
     }
     let mut space = lent_bytes();
@@ -86,7 +86,7 @@ fn write<R: Read, W: Write>(from: &mut R, to: &mut W, rec: &[u64]) -> Result<(),
 }
 
 fn title<R: Read, W: Write>(from: &mut R, to: &mut W) -> Result<(), Unread> {
-    for _ in 0..MOST_TEXT {
+    for _ in 0..MOST_BYTES {
         let mut byte = [0u8; 1];
         if read_full(from, &mut byte)? != 1 {
             break;

@@ -11,17 +11,17 @@ pub fn lent() -> [u64; MOST_WORDS]
 }
 
 // More than any crew text that is written.
-pub const MOST_BYTES: usize = 9000;
+pub const MOST_LENT: usize = 9000;
 
-pub fn lent_bytes() -> [u8; MOST_BYTES]
+pub fn lent_bytes() -> [u8; MOST_LENT]
     ensures { 9000 ≡ length result }
 {
-    [7; MOST_BYTES]
+    [7; MOST_LENT]
 }
 
 // A word for each of these bytes.
-pub fn widened() -> [u64; MOST_BYTES]
+pub fn widened() -> [u64; MOST_LENT]
     ensures { 9000 ≡ length result }
 {
-    [0; MOST_BYTES]
+    [0; MOST_LENT]
 }

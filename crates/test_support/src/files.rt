@@ -6,9 +6,6 @@ use std::io::{ErrorKind, Write};
 use std::rt::Files;
 use std::{io, str};
 
-// More files than a folder has.
-pub const MOST_FILES: u64 = 1000;
-
 fn digit(n: u64) -> u8
     ensures { result < 128 }
 {

@@ -7,6 +7,6 @@ mod mixing;
 mod show;
 
 pub use bytes::widen;
-pub use files::{MOST_FILES, next_file};
+pub use files::next_file;
 pub use mixing::digest;
 pub use show::{case, number, text};

@@ -23,6 +23,10 @@ pub digits_most : (size most : ℕ) → size ≤ 4 * most → digits_for size �
 unfolding digits_for
 digits_most size most h = omega arith
 
+pub digits_few : (m : ℕ) → m ≤ 256 → digits_for m ≤ 64
+unfolding digits_for
+digits_few m h = omega arith
+
 -- ---- lines
 
 pub length_header : (n m : ℕ) → length (header_line n m) ≡ 5 + length (decimal n) + 1 + length (decimal m) + 1

@@ -116,11 +116,22 @@ lines_most ws (suc k) b =
 
 -- ---- the head and the refusal
 
-pub head_put : (l l' : List ℕ) (r count q : ℕ)
+pub head_put : (l l1 l2 l3 l4 l5 : List ℕ) (r1 r2 r3 r4 r5 : ℕ) (count q : ℕ) → Put l 0 roles_word l1 r1 → Put l1 r1 (decimal count) l2 r2
+    → Put l2 r2 comma l3 r3 → Put l3 r3 (decimal q) l4 r4 → Put l4 r4 line_end l5 r5
+    → (r5 ≡ length (head_line count q)) × (l5 ≡ put_at l 0 (head_line count q)) × (r5 ≤ 48)
+unfolding head_line
+head_put l l1 l2 l3 l4 l5 r1 r2 r3 r4 r5 count q a b c d e =
+    let w = put_then _ _ _ _ _ _ roles_word (decimal count ++ (comma ++ (decimal q ++ line_end))) a
+    (put_then _ _ _ _ _ _ (decimal count) (comma ++ (decimal q ++ line_end)) b (put_then _ _ _ _ _ _ comma (decimal q ++ line_end) c (put_then _ _ _ _ _ _ (decimal q) line_end d e))) in
+    let m = length-decimal count in
+    let n = length-decimal q in
+    (omega (arith, w.0), w.1, omega (arith, a.0, b.0, c.0, d.0, e.0))
+
+pub head_line_put : (l l' : List ℕ) (r count q : ℕ)
     → (r ≡ length (roles_word ++ (decimal count ++ (comma ++ (decimal q ++ line_end))))) × (l' ≡ put_at l 0 (roles_word ++ (decimal count ++ (comma ++ (decimal q ++ line_end)))))
     → (r ≡ length (head_line count q)) × (l' ≡ put_at l 0 (head_line count q)) × (r ≤ 48)
 unfolding head_line
-head_put l l' r count q p =
+head_line_put l l' r count q p =
     let a = length-append (decimal count) (comma ++ (decimal q ++ line_end)) in
     let b = length-append (decimal q) line_end in
     (p.0, p.1, omega (arith, p.0, length-decimal count, length-decimal q))

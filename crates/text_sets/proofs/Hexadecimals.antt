@@ -10,7 +10,7 @@ use native.Mathlib.Omega.{arith}
 use native.Mathlib.Numerals.{add-one}
 use lib.Dec.{leb, ltb}
 use lib.ListN.{length, get_or, set}
-use lib.Pow.{pow-add, pow_mono, field, mod-mod-pow}
+use lib.Pow.{pow-add, pow_mono, field, mod-mod-pow, shr-shr}
 use lib.Bits.{bit_and, and_mask}
 use Rattle.sets.specs.Truth.{all}
 use Rattle.sets.specs.Words.{value, word}
@@ -150,11 +150,23 @@ nibble_in n e f h =
     ap (λ (k : ℕ). n % 2 ^ k / 2 ^ e % 2 ^ 4) w ∙ ap (λ (x : ℕ). x % 2 ^ 4) (field n (f + 4) e) ∙ mod-mod-pow (n / 2 ^ e) f 4
 
 -- digit k of a word
-pub hex_nibble : (w k : ℕ) → bit_and (w / 2 ^ (4 * k)) 15 ≡ w / 16 ^ k % 16
-hex_nibble w k = and_mask (w / 2 ^ (4 * k)) 4 ∙ ap (λ (x : ℕ). w / x % 16) (sym (sixteen k))
+pub word_nibble : (w k : ℕ) → bit_and (w / 2 ^ (4 * k)) 15 ≡ w / 16 ^ k % 16
+word_nibble w k = and_mask (w / 2 ^ (4 * k)) 4 ∙ ap (λ (x : ℕ). w / x % 16) (sym (sixteen k))
 
-pub hex_nibble_lt : (w k : ℕ) → bit_and (w / 2 ^ (4 * k)) 15 < 16
-hex_nibble_lt w k = let e : bit_and (w / 2 ^ (4 * k)) 15 ≡ w / 16 ^ k % 16 = hex_nibble w k in omega arith
+pub word_nibble_lt : (w k : ℕ) → bit_and (w / 2 ^ (4 * k)) 15 < 16
+word_nibble_lt w k = let e : bit_and (w / 2 ^ (4 * k)) 15 ≡ w / 16 ^ k % 16 = word_nibble w k in omega arith
+
+-- digit k of a set, from the word that holds it
+pub hex_nibble : (s k : ℕ) → bit_and (word s (k / 16) / 2 ^ (4 * (k % 16))) 15 ≡ s / 16 ^ k % 16
+hex_nibble s k =
+    let p : 64 * (k / 16) + 4 * (k % 16) ≡ 4 * k = omega arith in
+    and_mask (word s (k / 16) / 2 ^ (4 * (k % 16))) 4
+    ∙ ap (λ (w : ℕ). w / 2 ^ (4 * (k % 16)) % 2 ^ 4) (word_quotient s (k / 16))
+    ∙ nibble_in (s / 2 ^ (64 * (k / 16))) (4 * (k % 16)) (60 - 4 * (k % 16)) (omega arith)
+    ∙ ap (λ (x : ℕ). x % 16) (shr-shr s (64 * (k / 16)) (4 * (k % 16)) ∙ ap (λ (x : ℕ). s / 2 ^ x) p ∙ ap (λ (x : ℕ). s / x) (sym (sixteen k)))
+
+pub hex_nibble_lt : (s k : ℕ) → bit_and (word s (k / 16) / 2 ^ (4 * (k % 16))) 15 < 16
+hex_nibble_lt s k = let e : bit_and (word s (k / 16) / 2 ^ (4 * (k % 16))) 15 ≡ s / 16 ^ k % 16 = hex_nibble s k in omega arith
 
 -- the digits of a word are those of the set, from its place on
 word_digits : (s k d : ℕ) → d ≤ 16 → hexadecimal d (word s k) ≡ hexadecimal d (s / 16 ^ (16 * k))

@@ -1,6 +1,6 @@
 -- What is left to write, put into the list so far, is what was to be written.
 -- Assumes nothing.
-use Rattle.text_sets.proofs.Hexadecimals.{hex_stored, hex_nibble, hex_nibble_lt, hex_store}
+use Rattle.text_sets.proofs.Hexadecimals.{hex_stored, word_nibble, word_nibble_lt, hex_store}
 use native.Mathlib.Nat.{add-zero, sub-zero}
 use Prim.Native.Nat.{◌-◌}
 use Rattle.text.specs.Digits.{digit_byte}
@@ -14,13 +14,13 @@ loop-i-init c = (omega arith, refl, rw (add-zero, sub-zero) refl)
 
 pub digit_byte-requires : goal.digit_byte-requires
 digit_byte-requires c = let a = c.args in
-    hex_nibble_lt a.w (a.d - 1 - c.loop-i.i)
+    word_nibble_lt a.w (a.d - 1 - c.loop-i.i)
 
 pub loop-i-preserved : goal.loop-i-preserved
 loop-i-preserved c = let i = c.loop-i.invariant in (
   omega arith,
   simp length-set i.1,
-  hex_store _ _ _ _ _ _ _ _ c.loop-i-test.true refl (c.digit_byte.ensures ∙ ap digit_byte (hex_nibble _ _)) i.2,
+  hex_store _ _ _ _ _ _ _ _ c.loop-i-test.true refl (c.digit_byte.ensures ∙ ap digit_byte (word_nibble _ _)) i.2,
 )
 
 pub returns : goal.returns
