@@ -295,9 +295,8 @@ def served_lists(script, rng):
     script.serve(3, 3, words, [])
 
 
-def replayed(rng, writes=None):
-    """The script of `test_replay`; where there is a source `writes`, which moves no other call, the writer is called in between."""
-    script = Script()
+def replayed(script, rng, writes=None):
+    """The script of `test_replay`, put to this one; where there is a source `writes`, which moves no other call, the writer is called in between."""
 
     def write(often):
         if writes and writes.random() < often:
@@ -378,15 +377,13 @@ def replayed(rng, writes=None):
 def replay(rng):
     """Lists of strikes, restorations, eliminations and reviews, good and refused, with the two calls that read and damaged records in between; then
     the lists of guards.py, the worst ones, records of other lengths, and lists served in one go. The last line but one can't be read, so the strike after it is not made."""
-    return replayed(rng)
+    return replayed(Script(), rng)
 
 
 @target("test_written")
 def written(rng):
     """The cases of request 1, and then the script of `test_replay` once more, with lists written back in between."""
-    cases = worked.written()
-    again = replayed(random.Random("vectors of replay"), random.Random("lists written back"))
-    return {name: cases[name] + again[name] for name in cases}
+    return replayed(worked.written(), random.Random("vectors of replay"), random.Random("lists written back"))
 
 
 def crew_texts(rng):

@@ -321,14 +321,14 @@ def run(*parts):
     cases = Cases()
     for part in parts:
         part(cases)
-    return cases.files()
+    return cases
 
 
 def files():
     """Of `test_worked`."""
-    return run(mining, asking, damaging, lengths, standing_sets, editing, reading)
+    return run(mining, asking, damaging, lengths, standing_sets, editing, reading).files()
 
 
 def written():
-    """Of `test_written`: its first part."""
+    """The first part of `test_written`, as a script to go on with."""
     return run(writing)
