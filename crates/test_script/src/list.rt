@@ -5,18 +5,15 @@ use std::io::{Read, Write};
 use test_input::{Unread, last_numbers, numbers};
 use test_support::case;
 
-fn serve_words<R: Read, W: Write>(
-    from: &mut R,
+fn serve_words<W: Write>(
     to: &mut W,
     n: u64,
     m: u64,
-    crew: &mut [u64],
-    calls: &mut [u64],
+    crew: &[u64],
+    calls: &[u64],
     out: &mut [u64],
     rec: &mut [u64],
 ) -> Result<(), Unread> {
-    numbers(from, crew)?;
-    last_numbers(from, calls)?;
     match serve(n, m, crew, calls, rec, out) {
         Served::Unreadable => case(to, b"list unreadable", &[], out, rec)?,
         Served::Refused(code) => case(to, b"list refused", &[code], out, rec)?,
@@ -28,8 +25,6 @@ fn serve_words<R: Read, W: Write>(
 pub fn list<R: Read, W: Write>(from: &mut R, to: &mut W, rec: &mut [u64]) -> Result<(), Unread> {
     let mut head = [0u64; 5];
     numbers(from, &mut head)?;
-    let n = head[0];
-    let m = head[1];
     let rows = head[2] as usize;
     let words = head[3] as usize;
     let answers = head[4] as usize;
@@ -37,15 +32,16 @@ pub fn list<R: Read, W: Write>(from: &mut R, to: &mut W, rec: &mut [u64]) -> Res
         return Err(Unread::Line);
     }
     let mut crew = lent();
+    numbers(from, &mut crew[..rows])?;
     let mut calls = lent();
+    last_numbers(from, &mut calls[..words])?;
     let mut out = lent();
     serve_words(
-        from,
         to,
-        n,
-        m,
-        &mut crew[..rows],
-        &mut calls[..words],
+        head[0],
+        head[1],
+        &crew[..rows],
+        &calls[..words],
         &mut out[..answers],
         rec,
     )
