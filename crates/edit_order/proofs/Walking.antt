@@ -16,7 +16,7 @@ use Rattle.sets.specs.Sets.{has, ◌∩◌, ◌∖◌, subset, collect}
 use Rattle.sets.proofs.Truth.{by_test, either, So-not, when-true, when-false}
 use Rattle.sets.proofs.Items.{has-zero, item_below}
 use Rattle.sets.proofs.Order.{∩-iff, ∩-lt, ∖-iff, subset_refl, collect_iff, collect_lt}
-use Rattle.sets.proofs.Counts.{ones_some, ones-∖, dropped_fewer}
+use Rattle.sets.proofs.Counts.{ones_some, dropped_fewer}
 use Rattle.model.specs.Lists.{set_at}
 use Rattle.model.specs.Hierarchy.{Roles, candidate_count, permission_set}
 use Rattle.model.specs.Coverage.{covers}

@@ -1,7 +1,6 @@
 -- What the walk over users and permissions answers, and what it is given.
 -- Assumes nothing.
 use Rattle.std.specs.Prelude.{◌≡◌, Bool, List, ℕ, ◌+◌, ◌*◌, ◌^◌, ◌≤◌, ◌<◌, get_or}
-use Rattle.std.proofs.Math.Bool.{So}
 use Rattle.sets.specs.Truth.{◌implies◌, all}
 use Rattle.sets.specs.Sets.{has}
 use Rattle.model.specs.Lists.{set_at}

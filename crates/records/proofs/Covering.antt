@@ -2,7 +2,7 @@
 -- Assumes nothing.
 use mathlib.Core.Path.{◌≡◌, refl, sym, ◌∙◌, ap, ap₂, subst}
 use mathlib.Core.Bool.{Bool, true, So}
-use mathlib.Core.Logic.{◌↔◌, ◌⊎◌, ⊎_elim}
+use mathlib.Core.Logic.{◌↔◌, ⊎_elim}
 use mathlib.Core.List.{List}
 use Prim.Native.Nat.{ℕ, ◌*◌, ◌^◌, ◌≤◌, ◌<◌}
 use native.Mathlib.Nat.{lt_of_lt_of_le}
@@ -16,7 +16,7 @@ use Rattle.sets.proofs.Order.{∩-iff, ∩-lt, subset_iff}
 use Rattle.model.specs.Lists.{set_at}
 use Rattle.model.specs.Hierarchy.{candidate_count, permission_set}
 use Rattle.model.specs.Coverage.{grant, covered, all_covered}
-use Rattle.model.specs.Indexes.{lower, maximal, roles_of_user}
+use Rattle.model.specs.Indexes.{maximal, roles_of_user}
 use Rattle.model.specs.State.{State, roles_of}
 use Rattle.model.proofs.Reading.{covered_iff, covers_iff}
 use Rattle.model.proofs.Shortcuts.{maximal_iff, roles_of_user_iff, maximal_above}

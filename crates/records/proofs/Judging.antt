@@ -9,7 +9,7 @@ use native.Mathlib.Omega.{arith}
 use lib.Dec.{ltb}
 use borrow.Author.Tests.{not-true, not-false}
 use lib.ListN.{length, get_or}
-use Rattle.sets.specs.Truth.{◌and◌, all}
+use Rattle.sets.specs.Truth.{◌and◌}
 use Rattle.sets.specs.Sets.{has, subset, collect}
 use Rattle.sets.proofs.Truth.{same_test, So-not, not-So, and_iff, ltb_iff}
 use Rattle.sets.proofs.Order.{subset_iff, collect_iff}

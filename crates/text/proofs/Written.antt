@@ -4,10 +4,9 @@ use mathlib.Core.Path.{◌≡◌, refl, sym, ◌∙◌, ap}
 use mathlib.Core.Bool.{So}
 use mathlib.Core.List.{List, [], ◌∷◌}
 use mathlib.Core.Logic.{◌≢◌}
-use Prim.Native.Nat.{ℕ, zero, suc, ◌+◌, ◌-◌, ◌*◌, ◌/◌, ◌%◌, ◌^◌, ◌≤◌, ◌<◌}
-use native.Mathlib.Nat.{add-zero, add_assoc, pow-suc, div-one, div-eq_of_lt, div-div-eq-div-mul, not-suc-le-zero, le_of_suc-le-suc}
+use Prim.Native.Nat.{ℕ, zero, suc, ◌+◌, ◌*◌, ◌/◌, ◌%◌, ◌≤◌, ◌<◌}
+use native.Mathlib.Nat.{add-zero}
 use native.Mathlib.Omega.{arith}
-use lib.Arith.{digits_div}
 use lib.ListN.{length, get_or}
 use Rattle.sets.proofs.Truth.{either, equal_or}
 use Rattle.text.specs.declared.decimal.Decimal.TheVariants.{Number, Nothing}
@@ -15,7 +14,7 @@ use Rattle.text.specs.Digits.{digit_byte, digit_of, digit_at}
 use Rattle.text.specs.Fixed.{holds, comma, line_end}
 use Rattle.text.specs.Decimal.{decimal_at, decimal}
 use Rattle.text.proofs.Digits.{digit_back, byte_back, digit_low, digit_inside}
-use Rattle.text.proofs.Bytes.{holds_iff, holds_at, holds_end, holds_one, holds-append}
+use Rattle.text.proofs.Bytes.{holds_at, holds_one, holds-append}
 use Rattle.text.proofs.Decimals.{decimal_none, decimal_one, decimal_leading, decimal_two, decimal_three, decimal_four, decimal_short, decimal_long}
 
 -- ---- one digit

@@ -3,7 +3,7 @@
 use borrow.Author.Rules.{rules}
 use mathlib.Core.Path.{◌≡◌}
 use native.Mathlib.Omega.{arith}
-use Prim.Native.Nat.{◌+◌, ◌-◌}
+use Prim.Native.Nat.{◌+◌}
 use lib.ListN.{length-set}
 use Rattle.blocks.proofs.Shuffling.{shuffled_none, shuffled_more}
 use Rattle.blocks.proofs.shuffle.Goals as goal

@@ -1,6 +1,5 @@
 -- The kinds before i are known.
 -- Assumes nothing.
-use Prim.Native.Nat.{◌-◌}
 use native.Mathlib.Omega.{arith}
 use Rattle.calls_list.proofs.Reading.{readable_not, readable_all, kinds_none, kinds_more}
 use Rattle.calls_list.proofs.can_read.Goals as goal

@@ -1,6 +1,5 @@
 -- The meets of r with the first i sets of the table are in it.
 -- Assumes nothing.
-use Prim.Native.Nat.{◌-◌}
 use mathlib.Core.Path.{subst}
 use Rattle.mining.specs.Mining.{Known, Adds}
 use Rattle.mining.proofs.Meeting.{walked_none}

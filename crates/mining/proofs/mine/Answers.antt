@@ -1,6 +1,6 @@
 -- The table has the candidates of the rows before place i.
 -- Assumes nothing.
-use Prim.Native.Nat.{ℕ, ◌-◌}
+use Prim.Native.Nat.{ℕ}
 use lib.ListN.{length-replicate}
 use mathlib.Core.Path.{subst}
 use Rattle.mining.specs.Mining.{Adds}

@@ -1,9 +1,7 @@
 -- All places before place i have a digit.
 -- Assumes nothing.
-use Prim.Native.Nat.{◌-◌}
 use Rattle.sets.proofs.Truth.{all_none, all_more, ltb_iff}
 use Rattle.text_sets.proofs.Hexadecimals.{hex_short, hex_fails, hex_through}
-use Rattle.text.specs.Digits.{digit_at}
 use mathlib.Core.Path.{sym}
 use native.Mathlib.Omega.{arith}
 use Rattle.text_sets.proofs.has_digits.Goals as goal

@@ -1,7 +1,7 @@
 -- The digits of whole words that are left to write, put into the list so far, are what was to be written.
 -- Assumes nothing.
 use mathlib.Core.Path.{◌≡◌}
-use Prim.Native.Nat.{◌+◌, ◌-◌, ◌*◌}
+use Prim.Native.Nat.{◌+◌, ◌*◌}
 use lib.ListN.{length}
 use Rattle.sets_256.specs.Held.{set256}
 use Rattle.stores.specs.Stores.{put_at}

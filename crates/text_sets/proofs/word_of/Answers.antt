@@ -1,6 +1,5 @@
 -- The word so far is what the first i digits make.
 -- Assumes nothing.
-use Prim.Native.Nat.{◌-◌}
 use Rattle.text_sets.proofs.Hexadecimals.{hex_end, hex_digit, hex_more, hex_room}
 use Rattle.text_sets.specs.Hexadecimal.{hexadecimal_value}
 use mathlib.Core.Path.{◌≡◌, refl}

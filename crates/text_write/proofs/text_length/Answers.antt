@@ -1,7 +1,6 @@
 -- The header and the lines of the users below u are counted.
 -- Assumes nothing.
 use mathlib.Core.Path.{◌≡◌, sym, ◌∙◌}
-use Prim.Native.Nat.{◌-◌}
 use native.Mathlib.Omega.{arith}
 use Rattle.text_lines.proofs.Lengths.{length_text}
 use Rattle.text_write.proofs.Puts.{sized_none, sized_more}

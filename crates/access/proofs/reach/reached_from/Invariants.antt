@@ -1,6 +1,6 @@
 -- The links of the roles from k up are followed.
 -- Assumes nothing.
-use Prim.Native.Nat.{◌-◌, ◌≤◌}
+use Prim.Native.Nat.{◌≤◌}
 use Rattle.sets_128.specs.Held.{set128}
 use Rattle.access.proofs.Following.{Following}
 use Rattle.access.proofs.reach.reached_from.Given as goal

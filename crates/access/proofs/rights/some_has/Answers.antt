@@ -1,7 +1,5 @@
 -- None of the roles below j has p.
 -- Assumes nothing.
-use mathlib.Core.Bool.{false}
-use Prim.Native.Nat.{◌-◌}
 use native.Mathlib.Omega.{arith}
 use Rattle.access.proofs.Search.{both_tests, any_none, any_more, any_found, any_missed}
 use borrow.Author.Rules.{rules}

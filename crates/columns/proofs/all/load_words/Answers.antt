@@ -3,7 +3,7 @@
 use borrow.Author.Rules.{rules}
 use mathlib.Core.Path.{◌≡◌}
 use native.Mathlib.Omega.{arith}
-use Prim.Native.Nat.{◌+◌, ◌-◌, ◌*◌, ◌<◌}
+use Prim.Native.Nat.{◌+◌, ◌*◌, ◌<◌}
 use lib.ListN.{length, length-set}
 use Rattle.columns.proofs.Gathering.{loaded_none, loaded_more}
 use Rattle.columns.proofs.all.load_words.Goals as goal

@@ -1,6 +1,5 @@
 -- The words before i are zero.
 -- Assumes nothing.
-use Prim.Native.Nat.{◌-◌}
 use native.Mathlib.Omega.{arith}
 use lib.ListN.{length-set}
 use Rattle.edit_order.proofs.Sorting.{zero_more}

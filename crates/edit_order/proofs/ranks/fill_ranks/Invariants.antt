@@ -1,6 +1,5 @@
 -- The roles that are not in `rest` are at their ranks.
 -- Assumes nothing.
-use Prim.Native.Nat.{◌-◌}
 use lib.Count.{ones}
 use Rattle.sets_128.specs.Held.{set128}
 use Rattle.edit_order.proofs.Sorting.{Sorting}

@@ -1,7 +1,6 @@
 -- The users not in `rest`, and the permissions of u not in `asked`, have no bare grant.
 -- Assumes nothing.
 use mathlib.Core.Path.{refl, ◌∙◌}
-use mathlib.Core.Bool.{false}
 use native.Mathlib.Omega.{arith}
 use Rattle.hierarchy.proofs.Sieving.{fewer, not_empty, is_empty_lem}
 use Rattle.edit_test.proofs.Covering.{walk_start, walk_more, asking_start, asking_more, walk_bare, walk_through, went_through, was_left}

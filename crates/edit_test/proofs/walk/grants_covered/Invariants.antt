@@ -1,11 +1,5 @@
 -- The users not in `rest`, and the permissions of u not in `asked`, have no bare grant.
 -- Assumes nothing.
-use Rattle.sets_128.proofs.Set128.intersection.Reads as set128-Set128-intersection-reads
-use Rattle.sets_128.proofs.Set128.is_empty.Reads as set128-Set128-is-empty-reads
-use Rattle.sets_128.proofs.Set128.remove.Reads as set128-Set128-remove-reads
-use Rattle.sets_256.proofs.Set256.intersection.Reads as set256-Set256-intersection-reads
-use Rattle.sets_256.proofs.Set256.is_empty.Reads as set256-Set256-is-empty-reads
-use Rattle.sets_256.proofs.Set256.remove.Reads as set256-Set256-remove-reads
 use mathlib.Core.Path.{◌≡◌}
 use mathlib.Core.Bool.{false}
 use lib.Count.{ones}

@@ -1,7 +1,5 @@
 -- Each part is a count of ones.
 -- Assumes nothing.
-use Rattle.sets_128.proofs.Set128.count.Reads as set128-Set128-count-reads
-use Rattle.sets_256.proofs.Set256.count.Reads as set256-Set256-count-reads
 use mathlib.Core.Path.{refl, ap₂}
 use Prim.Native.Nat.{◌+◌, ◌^◌, ◌<◌}
 use native.Mathlib.Omega.{arith}

@@ -1,8 +1,6 @@
 -- What the roles that are not in `rest` take over is counted.
 -- Assumes nothing.
 use borrow.Author.Rules.{rules}
-use Rattle.sets_128.proofs.Set128.is_empty.Reads as set128-Set128-is-empty-reads
-use Rattle.sets_256.proofs.Set256.is_empty.Reads as set256-Set256-is-empty-reads
 use Prim.Native.Nat.{◌^◌, ◌<◌}
 use native.Mathlib.Omega.{arith}
 use Rattle.sets_128.specs.Held.{set128}

@@ -1,7 +1,5 @@
 -- What the roles that are not in `rest` take over is counted.
 -- Assumes nothing.
-use Rattle.sets_128.proofs.Set128.is_empty.Reads as set128-Set128-is-empty-reads
-use Rattle.sets_256.proofs.Set256.is_empty.Reads as set256-Set256-is-empty-reads
 use lib.Count.{ones}
 use Rattle.sets_128.specs.Held.{set128}
 use Rattle.sets_256.specs.Held.{set256}

@@ -1,6 +1,6 @@
 -- The entries before i are filled.
 -- Assumes nothing.
-use Prim.Native.Nat.{◌-◌, ◌^◌, ◌<◌}
+use Prim.Native.Nat.{◌^◌, ◌<◌}
 use native.Mathlib.Omega.{arith}
 use Rattle.sets_128.specs.Held.{set128}
 use Rattle.sets.proofs.Written.{words}

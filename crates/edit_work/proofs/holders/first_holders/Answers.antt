@@ -3,7 +3,6 @@
 use borrow.Author.Rules.{rules}
 use mathlib.Core.Path.{◌≡◌}
 use native.Mathlib.Omega.{arith}
-use Prim.Native.Nat.{◌-◌}
 use Rattle.edit_work.proofs.Reaching.{lowest-none, lowest_more}
 use Rattle.edit_work.proofs.holders.first_holders.Goals as goal
 

@@ -3,7 +3,6 @@
 use borrow.Author.Rules.{rules}
 use mathlib.Core.Path.{◌≡◌, sym, ◌∙◌}
 use native.Mathlib.Omega.{arith}
-use Prim.Native.Nat.{◌-◌}
 use Rattle.sets.proofs.Order.{collect-zero, collect-bit}
 use Rattle.hierarchy.proofs.lower.gather_within.Goals as goal
 

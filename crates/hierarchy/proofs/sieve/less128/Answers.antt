@@ -2,7 +2,6 @@
 -- Assumes nothing.
 use mathlib.Core.Path.{refl, sym, ◌∙◌, ap₂}
 use native.Mathlib.Omega.{arith}
-use Rattle.sets.specs.Sets.{◌∖◌}
 use Rattle.sets.proofs.Written.{words}
 use Rattle.sets_128.proofs.Held.{held128}
 use Rattle.sets.proofs.Order.{∖-lt}

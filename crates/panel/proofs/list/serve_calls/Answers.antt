@@ -1,7 +1,6 @@
 -- The first i calls are made, and their answers written.
 -- Assumes nothing.
 use mathlib.Core.Path.{refl}
-use Prim.Native.Nat.{◌-◌}
 use native.Mathlib.Omega.{arith}
 use Rattle.calls_list.proofs.Reading.{readable_sizes}
 use Rattle.panel.proofs.Serving.{serving_start, serving_more, serving_all}

@@ -1,6 +1,6 @@
 -- The sets before place i are counted.
 -- Assumes nothing.
-use Prim.Native.Nat.{◌-◌, ◌^◌, ◌<◌}
+use Prim.Native.Nat.{◌^◌, ◌<◌}
 use native.Mathlib.Omega.{arith}
 use lib.Count.{ones-le}
 use Rattle.sets_128.specs.Held.{set128}

@@ -3,7 +3,6 @@
 use borrow.Author.Rules.{rules}
 use mathlib.Core.Path.{◌≡◌, sym, ◌∙◌}
 use native.Mathlib.Nat.{not-suc-le-zero}
-use Prim.Native.Nat.{◌-◌}
 use Rattle.sets.proofs.Truth.{So-not, all_of, all_more, all_fails, all_through}
 use Rattle.model.specs.Lists.{set_at}
 use Rattle.model.specs.Record.{crew_start}

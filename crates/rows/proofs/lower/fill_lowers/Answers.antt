@@ -2,7 +2,6 @@
 -- Assumes nothing.
 use borrow.Author.Rules.{rules}
 use mathlib.Core.Path.{◌≡◌, ◌∙◌}
-use Prim.Native.Nat.{◌-◌}
 use native.Mathlib.Omega.{arith}
 use Rattle.sets_128.specs.Held.{set128}
 use Rattle.rows.proofs.Rewriting.{linked_still, from_start, from_more, from_all}

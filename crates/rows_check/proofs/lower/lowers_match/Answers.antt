@@ -3,7 +3,6 @@
 use borrow.Author.Rules.{rules}
 use native.Mathlib.Nat.{not-suc-le-zero}
 use native.Mathlib.Omega.{arith}
-use Prim.Native.Nat.{◌-◌}
 use Rattle.rows_check.specs.Held.{LowerHeld}
 use Rattle.sets.proofs.Telling.{no_of, yes_of, failed, passed, one_more}
 use Rattle.rows_check.proofs.lower.lowers_match.Goals as goal

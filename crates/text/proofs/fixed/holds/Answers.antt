@@ -1,7 +1,6 @@
 -- All bytes before place i agree.
 -- Assumes nothing.
 use Rattle.text.proofs.Bytes.{holds_short, holds_differs, holds_through}
-use Prim.Native.Nat.{◌-◌}
 use Rattle.sets.proofs.Truth.{all_none, all_more, eqb_iff}
 use mathlib.Core.Path.{sym}
 use native.Mathlib.Omega.{arith}

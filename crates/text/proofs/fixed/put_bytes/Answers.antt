@@ -2,7 +2,6 @@
 -- Assumes nothing.
 use Rattle.stores.proofs.Stores.{put_at-take, put_at_taken}
 use Rattle.stores.specs.Stores.{put_at}
-use Prim.Native.Nat.{◌-◌}
 use lib.ListN.{length-set}
 use mathlib.Core.Path.{refl}
 use native.Mathlib.Omega.{arith}

@@ -1,7 +1,6 @@
 -- The rows so far are read, and the words hold them.
 -- Assumes nothing.
 use mathlib.Core.Path.{refl, ◌≡◌, sym, ◌∙◌, ap}
-use Prim.Native.Nat.{◌-◌}
 use Rattle.text_crew.proofs.Answers.{bit_yes, bit_no, fill_none, fill_more, fill_broken, fill_bit, fill_all}
 use Rattle.text_lines.proofs.Forms.{row_has, row_room}
 use Rattle.text_crew.proofs.Laid.{length-laid}

@@ -1,7 +1,6 @@
 -- The lines of the roles below k are written.
 -- Assumes nothing.
 use mathlib.Core.Path.{◌≡◌, refl}
-use Prim.Native.Nat.{◌-◌}
 use native.Mathlib.Omega.{arith}
 use lib.ListN.{get_or}
 use Rattle.text_roles.proofs.Puts.{lines_none, lines_more, lines_most, put_upto}

@@ -1,7 +1,7 @@
 -- The lines of the users below u are written.
 -- Assumes nothing.
 use mathlib.Core.Path.{refl}
-use Prim.Native.Nat.{suc, ◌-◌}
+use Prim.Native.Nat.{suc}
 use native.Mathlib.Omega.{arith}
 use Rattle.model.specs.Lists.{rows_at}
 use Rattle.model.specs.Record.{crew_start}
