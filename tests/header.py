@@ -107,8 +107,12 @@ def sourced():
     """The constants that the sources give, as (name in the header, value, where)."""
     for name, (file, constant) in CONSTANTS.items():
         yield name, first(r"const %s: (?:usize|u64) = (\d+);" % constant, file), "%s of %s" % (constant, file)
-    for constant, value in re.findall(r"const (\w+): u64 = (\d+);", (ROOT / REFUSALS).read_text(encoding="utf-8")):
-        yield "PANEL_" + constant, value, "%s of %s" % (constant, REFUSALS)
+    for variant in first(r"(?s)pub enum Refusal {\n(.*?)\n}", REFUSALS).split("\n"):
+        if variant.strip() and not variant.strip().startswith("//"):
+            match = re.fullmatch(r"    (\w+) = (\d+),", variant)
+            if not match:
+                sys.exit("tests/header.py: a refusal in %s is not understood: %s" % (REFUSALS, variant.strip()))
+            yield "PANEL_REFUSED_" + match[1].upper(), match[2], "Refusal::%s of %s" % (match[1], REFUSALS)
     yield "PANEL_ACCEPTED", first(r"Accepted ws call = .* ≡ (\d+)\n", CLAIM), "Accepted of " + CLAIM
     words = [word.strip() for word in first(r"header_word st i =\s+get_or\s+\((.*)\)\s+i 0\n", RECORD).split("∷")]
     for name, word in NUMBERS.items():
@@ -223,7 +227,7 @@ def main():
     for compiler, _, remedy in COMPILERS:
         if shutil.which(compiler) is None:
             sys.exit("tests/header.py: %s is missing: %s" % (compiler, remedy))
-    sources = [source for name in ("panel_c", "call_*", "text_crew") for source in sorted((ROOT / "crates").glob(name + "/src/*.rt"))]
+    sources = [source for source in sorted((ROOT / "crates/panel_c/src").glob("*.rt"))]
     crate = exported(sources)
     *header, constants, rest = declared()
     faults = list(differences(crate, header))

@@ -10,7 +10,7 @@ use lib.ListN.{get_or, take, drop}
 use Rattle.sets.specs.Truth.{◌and◌, any}
 use Rattle.sets.specs.Sets.{has, collect}
 use Rattle.sets.proofs.Truth.{same_test, and_iff, any_of, any_is, any_same}
-use Rattle.sets.proofs.Items.{item_below}
+use Rattle.sets.proofs.Members.{item_below}
 use Rattle.sets.proofs.Order.{collect_same, collect_lt}
 use Rattle.model.specs.Lists.{set_at}
 use Rattle.model.specs.Hierarchy.{candidate_count, RoleRows}

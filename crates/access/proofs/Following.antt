@@ -9,7 +9,7 @@ use native.Mathlib.Omega.{arith}
 use Rattle.sets.specs.Truth.{when◌then◌else◌}
 use Rattle.sets.specs.Sets.{has, ◌∪◌}
 use Rattle.sets.proofs.Truth.{by_test, So-not, not-So, when-true, when-false, either, equal_or}
-use Rattle.sets.proofs.Items.{item_below, same_set, below_of_items}
+use Rattle.sets.proofs.Members.{item_below, same_set, below_of_items}
 use Rattle.sets.proofs.Order.{∪-iff, ∪-lt}
 use Rattle.model.specs.Lists.{set_at}
 use Rattle.model.specs.Hierarchy.{RoleRows}

@@ -1,7 +1,7 @@
 // May u use p: does some role have u as direct member and reach a role with p direct?
 ghost use Rattle.std.specs.Prelude.{◌≡◌, ◌*◌, ◌≤◌, length, get_or};
 ghost use Rattle.std.proofs.Math.Bool.{So};
-ghost use Rattle.sets_128.specs.Held.{set128};
+ghost use Rattle.sets.specs.Held.{set_of};
 ghost use Rattle.sets.specs.Sets.{has};
 ghost use Rattle.sets.specs.Truth.{◌and◌, any};
 ghost use Rattle.model.specs.Lists.{set_at};
@@ -13,8 +13,8 @@ ghost use Rattle.tables.specs.Tables.{table256_length};
 
 use crate::reach::reached_from;
 use columns::column;
-use sets_128::Set128;
-use tables::{JUNIORS, LENGTH, MEMBERS, PERMISSIONS, load256};
+use sets::Set128;
+use tables::{JUNIORS, LENGTH, MEMBERS, PERMISSIONS, load};
 
 pub fn may(rec: &[u64], u: usize, p: usize) -> bool
     requires rec_len { length rec.now ≡ record_length }
@@ -30,14 +30,7 @@ pub fn may(rec: &[u64], u: usize, p: usize) -> bool
 // Whether one of the roles has p in its set.
 fn some_has(table: &[u64], roles: Set128, p: usize) -> bool
     requires { length table.now ≡ table256_length }
-    ensures { result ≡ any 128 (λ j. has (set128 roles) j and has (set_at 4 table.now (4 * j)) p) }
+    ensures { result ≡ any 128 (λ j. has (set_of roles) j and has (set_at 4 table.now (4 * j)) p) }
 {
-    let mut j = 0;
-    while j < 128 {
-        if roles.contains(j) & load256(table, 4 * j).contains(p) {
-            return true;
-        }
-        j += 1;
-    }
-    false
+    (0..128).any(|j| roles.contains(j) & load::<4>(table, 4 * j).contains(p))
 }

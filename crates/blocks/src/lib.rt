@@ -25,12 +25,10 @@ fn shuffle(from: &[u64], s: usize, m: u64, to: &mut [u64])
     requires { (length from.now ≡ 64) × (length to.old ≡ 64) × (s < 64) × So (spaced s m) }
     ensures { Shuffled 64 s m from.now to.new }
 {
-    let mut i = 0;
-    while i < 32 {
+    for i in 0..32 {
         let x = from[i];
         let y = from[i + 32];
         to[2 * i] = (x & m) | ((y & m) << s);
         to[2 * i + 1] = ((x >> s) & m) | (y & !m);
-        i += 1;
     }
 }

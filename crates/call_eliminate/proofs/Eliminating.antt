@@ -1,11 +1,12 @@
--- What a refused elimination answers, and what an accepted one leaves.
+-- The work that an elimination is lent, and what an accepted one leaves.
 -- Assumes nothing.
 use mathlib.Core.Path.{◌≡◌, sym, ◌∙◌, ap}
 use mathlib.Core.List.{List, ◌++◌}
 use Prim.Native.Nat.{ℕ}
+use Rattle.std.specs.Prelude.{Ok}
 use native.Mathlib.Omega.{arith}
 use lib.ListN.{length, take, drop}
-use Rattle.model.specs.Machine.{Call, refusal, accepted, eliminated, reply}
+use Rattle.model.specs.Machine.{refusal, accepted, eliminated}
 use Rattle.model.specs.Machine.Call.{eliminate}
 use Rattle.model.specs.Quality.{Weights, Tolerance}
 use Rattle.model.specs.State.{roles_of}
@@ -18,8 +19,7 @@ use Rattle.edit_work.specs.Work.{work_length, down_start}
 use Rattle.edit_trials.specs.declared.progress.Progress.{Progress}
 use Rattle.edit_trials.specs.Trying.{run_at}
 use Rattle.edit_eliminate.specs.Ending.{EliminationEnded}
-use Rattle.calls_edit.proofs.Edits.{replied_with, edit_accepted}
-use Rattle.call_eliminate.specs.declared.EliminateAnswer.{EliminateAnswer}
+use Rattle.calls_edit.proofs.Edits.{edit_accepted}
 use Rattle.call_eliminate.specs.Results.{eliminate_result}
 
 -- ---- the first region of the work holds the immediate seniors
@@ -35,20 +35,12 @@ module _ (ws index seniors work : List ℕ) (ready : Ready (state_of ws) ws inde
   pub entered_ready : Ready (state_of ws) ws index (take down_start (take 0 work ++ (seniors ++ drop down_start (drop 0 work))))
   entered_ready = rw (ap (take down_start) filled ∙ part_stored work 0 seniors down_start ready.linked.size (omega arith)) ready
 
--- ---- the answers
+-- ---- the record that the run leaves
 
--- the record as it was
-pub refused : (ws : List ℕ) (call : Call) (code : ℕ) (r : EliminateAnswer) → (r.code ≡ code) × (r.removed ≡ 0) × (r.examined ≡ 0)
-    → replied_with code ws ≡ edit ws call → eliminate_result r ws ≡ edit ws call
-unfolding eliminate_result
-refused ws call code r e told = (λ i. record { replied = reply (e.0 i) (e.1 i) (e.2 i); words = ws }) ∙ told
-
--- and the one that the run leaves
-pub run_ended : (ws after index seniors : List ℕ) (w : Weights) (t : Tolerance) (g : Progress) (r : EliminateAnswer) → unfit ws ≡ 0 → refusal (state_of ws) (eliminate w t) ≡ 0
-    → r.code ≡ 0 → r.removed ≡ g.changed → r.examined ≡ g.examined → EliminationEnded (state_of ws) after index seniors g (eliminated (roles_of (state_of ws)) w t (state_of ws).standing)
-    → eliminate_result r after ≡ edit ws (eliminate w t)
-unfolding eliminate_result accepted run_at
-run_ended ws after index seniors w t g r z e ec er ee done =
-    (λ i. record { replied = reply (ec i) (er i) (ee i); words = after })
-    ∙ edit_accepted ws (eliminate w t) z e (run_at after g (eliminated (roles_of (state_of ws)) w t (state_of ws).standing).worklist) after (sym done.run)
+pub run_ended : (ws after index seniors : List ℕ) (w : Weights) (t : Tolerance) (g : Progress) → unfit ws ≡ 0 → refusal (state_of ws) (eliminate w t) ≡ 0
+    → EliminationEnded (state_of ws) after index seniors g (eliminated (roles_of (state_of ws)) w t (state_of ws).standing)
+    → eliminate_result (Ok (record { removed = g.changed; examined = g.examined })) after ≡ edit ws (eliminate w t)
+unfolding accepted run_at
+run_ended ws after index seniors w t g z e done =
+    edit_accepted ws (eliminate w t) z e (run_at after g (eliminated (roles_of (state_of ws)) w t (state_of ws).standing).worklist) after (sym done.run)
     (done.in_step.ready.afresh ∙ ap built done.same_crew)

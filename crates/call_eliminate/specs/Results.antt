@@ -1,9 +1,12 @@
--- The answer with the record as the call leaves it, in the form in which the model gives it.
+-- What the call gives back, with the record as it leaves it, in the form in which the model says it.
 -- Assumes nothing.
-use Rattle.std.specs.Prelude.{List, ℕ}
+use Rattle.std.specs.Prelude.{List, ℕ, Result, Ok, Err}
 use Rattle.model.specs.Machine.{reply}
 use Rattle.model.specs.Calls.{Edited}
-use Rattle.call_eliminate.specs.declared.EliminateAnswer.{EliminateAnswer}
+use Rattle.refusals.specs.declared.Refusal.{Refusal}
+use Rattle.refusals.specs.Numbers.{number_of}
+use Rattle.call_eliminate.specs.declared.Eliminated.{Eliminated}
 
-unfoldable pub eliminate_result : EliminateAnswer → List ℕ → Edited
-eliminate_result r ws = record { replied = reply r.code r.removed r.examined; words = ws }
+abbrev pub eliminate_result : Result Eliminated Refusal → List ℕ → Edited
+eliminate_result (Ok done) ws = record { replied = reply 0 done.removed done.examined; words = ws }
+eliminate_result (Err r) ws = record { replied = reply (number_of r) 0 0; words = ws }

@@ -7,6 +7,7 @@ ghost use Rattle.model.specs.Machine.Call.{eliminate};
 ghost use Rattle.model.specs.Refusals.{tolerance_refusal};
 ghost use Rattle.model.specs.State.{State};
 ghost use Rattle.quality.specs.Numbers.{weights_in, tolerance_in, weights_of, tolerance_of};
+ghost use Rattle.refusals.specs.Numbers.{code_of};
 ghost use Rattle.call_eliminate.specs.Results.{eliminate_result};
 
 use calls::{enter, weights_refusal};
@@ -15,45 +16,30 @@ use edit_turn::Terms;
 use edit_work::{DOWN, SENIORS, WORK_LENGTH};
 use indexes::INDEX_LENGTH;
 use quality::{Tolerance, Weights, count_rows, tolerance_allowed};
-use refusals::REFUSED_RANGE;
+use refusals::Refusal;
 
-// The refusal's number, or 0, and beside 0 how many roles were struck, and how many were examined.
-#[repr(C)]
+// How many roles an elimination struck, and how many it examined.
 #[derive(Clone, Copy)]
-pub struct EliminateAnswer {
-    pub code: u64,
+pub struct Eliminated {
     pub removed: u64,
     pub examined: u64,
 }
 
-fn refused(code: u64) -> EliminateAnswer
-    ensures { (result.code ≡ code) × (result.removed ≡ 0) × (result.examined ≡ 0) }
-{
-    EliminateAnswer {
-        code,
-        removed: 0,
-        examined: 0,
-    }
-}
-
-// 9, or 0 where the tolerance is in its range.
-fn tolerance_refusal(t: Tolerance) -> u64
-    ensures { result ≡ tolerance_refusal (tolerance_in t) }
+// Refuses a tolerance outside its range.
+fn tolerance_refusal(t: Tolerance) -> Result<(), Refusal>
+    ensures { code_of result ≡ tolerance_refusal (tolerance_in t) }
 {
     if !tolerance_allowed(t) {
-        return REFUSED_RANGE;
+        return Err(Refusal::Range);
     }
-    0
+    Ok(())
 }
 
-// 9, or 0 where both are.
-fn terms_refusal(terms: Terms) -> u64
-    ensures { (st : State) → result ≡ refusal st (eliminate (weights_in terms.weights) (tolerance_in terms.tolerance)) }
+// Refuses weights outside their range, and then a tolerance outside its own.
+fn terms_refusal(terms: Terms) -> Result<(), Refusal>
+    ensures { (st : State) → code_of result ≡ refusal st (eliminate (weights_in terms.weights) (tolerance_in terms.tolerance)) }
 {
-    let code = weights_refusal(terms.weights);
-    if code != 0 {
-        return code;
-    }
+    weights_refusal(terms.weights)?;
     tolerance_refusal(terms.tolerance)
 }
 
@@ -66,7 +52,7 @@ pub fn panel_eliminate(
     w4: u64,
     a: u64,
     b: u64,
-) -> EliminateAnswer
+) -> Result<Eliminated, Refusal>
     ensures { eliminate_result result rec.new ≡ edit rec.old (eliminate (weights_of w1 w2 w3 w4) (tolerance_of a b)) }
 {
     let terms = Terms {
@@ -83,19 +69,12 @@ pub fn panel_eliminate(
     };
     let mut index = [0u64; INDEX_LENGTH];
     let mut work = [0u64; WORK_LENGTH];
-    let unfit = enter(rec, &mut index, &mut work[SENIORS..DOWN]);
-    if unfit != 0 {
-        return refused(unfit);
-    }
-    let code = terms_refusal(terms);
-    if code != 0 {
-        return refused(code);
-    }
+    enter(rec, &mut index, &mut work[SENIORS..DOWN])?;
+    terms_refusal(terms)?;
     let counts = count_rows(rec);
     let run = eliminate_all(rec, &mut index, &mut work, terms, counts);
-    EliminateAnswer {
-        code: 0,
+    Ok(Eliminated {
         removed: run.changed,
         examined: run.examined,
-    }
+    })
 }

@@ -2,7 +2,6 @@
 -- Assumes nothing.
 use mathlib.Core.Path.{◌≡◌, sym, ◌∙◌, ap}
 use mathlib.Core.Bool.{false, So}
-use mathlib.Core.Logic.{◌≢◌}
 use mathlib.Core.List.{List}
 use Prim.Native.Nat.{ℕ, ◌*◌, ◌<◌}
 use lib.Dec.{leb}
@@ -18,7 +17,10 @@ use Rattle.model.proofs.Refusals.{mining_iff, mining_is_4}
 use Rattle.model.proofs.Steps.{Fit, mining_fit}
 use Rattle.model.proofs.Calls.{mine_code, mine_accepted}
 use Rattle.model.proofs.Claim.{fit_sound}
-use Rattle.call_mine.specs.declared.MineAnswer.{MineAnswer}
+use Rattle.std.specs.Prelude.{Ok, Err}
+use Rattle.refusals.specs.declared.Refusal.{Refusal}
+use Rattle.refusals.specs.Numbers.{number_of}
+use Rattle.refusals.proofs.Numbers.{some_number}
 use Rattle.call_mine.specs.Results.{mine_result}
 
 module _ (n m : ℕ) (crew ws : List ℕ) (full : length ws ≡ record_length) (ok : So (within_limits n m)) (size : length crew ≡ 4 * n)
@@ -35,31 +37,29 @@ module _ (n m : ℕ) (crew ws : List ℕ) (full : length ws ≡ record_length) (
   many_code : leb (length (candidates rows)) 128 ≡ false → mining_refusal n m crew ws ≡ 4
   many_code t = mining_is_4 n m crew ws full ok (size, inside) (more_than t)
 
-  module _ (r : MineAnswer) (ws' : List ℕ) (p : mine_result r ws' ≡ mine n m crew ws) where
-    code_is : r.code ≡ mining_refusal n m crew ws
-    unfolding mine_result
-    code_is = ap (λ (x : Mined). x.code) p ∙ mine_code n m crew ws
+  -- refused: that is 4
+  pub mined_many : (r : Refusal) (ws' : List ℕ) → mine_result (Err r) ws' ≡ mine n m crew ws → (number_of r ≡ 4) × (leb (length (candidates rows)) 128 ≡ false)
+  mined_many r ws' p =
+      let t = leb (length (candidates rows)) 128 in
+      let code : number_of r ≡ mining_refusal n m crew ws = ap (λ (x : Mined). x.code) p ∙ mine_code n m crew ws in
+      by_test t (λ y. absurd (some_number r (code ∙ few_code y))) (λ y. (code ∙ many_code y, y))
 
-    -- refused: that is 4
-    pub mined_many : r.code ≢ 0 → (r.code ≡ 4) × (leb (length (candidates rows)) 128 ≡ false)
-    mined_many d =
-        let t = leb (length (candidates rows)) 128 in
-        by_test t (λ y. absurd (d (code_is ∙ few_code y))) (λ y. (code_is ∙ many_code y, y))
+  module _ (c : ℕ) (ws' : List ℕ) (p : mine_result (Ok c) ws' ≡ mine n m crew ws) where
+    code_is : mining_refusal n m crew ws ≡ 0
+    code_is = sym (ap (λ (x : Mined). x.code) p ∙ mine_code n m crew ws)
 
-    module _ (z : r.code ≡ 0) where
-      pub mined_few : So (leb (length (candidates rows)) 128)
-      mined_few = (leb_iff (length (candidates rows)) 128).1 ((mining_iff n m crew ws).0 (sym code_is ∙ z)).3
+    pub mined_few : So (leb (length (candidates rows)) 128)
+    mined_few = (leb_iff (length (candidates rows)) 128).1 ((mining_iff n m crew ws).0 code_is).3
 
-      -- mined: the record holds the fresh state
-      pub mined_words : ws' ≡ built (fresh n m rows)
-      unfolding mine_result
-      mined_words = ap (λ (x : Mined). x.words) (p ∙ mine_accepted n m crew ws (sym code_is ∙ z))
+    -- mined: the record holds the fresh state
+    pub mined_words : ws' ≡ built (fresh n m rows)
+    mined_words = ap (λ (x : Mined). x.words) (p ∙ mine_accepted n m crew ws code_is)
 
-      pub mined_fit : Fit (fresh n m rows)
-      mined_fit = mining_fit n m crew ws (sym code_is ∙ z)
+    pub mined_fit : Fit (fresh n m rows)
+    mined_fit = mining_fit n m crew ws code_is
 
-      pub mined_state : state_of ws' ≡ fresh n m rows
-      mined_state = ap state_of mined_words ∙ state_back (fresh n m rows) mined_fit.limits
+    pub mined_state : state_of ws' ≡ fresh n m rows
+    mined_state = ap state_of mined_words ∙ state_back (fresh n m rows) mined_fit.limits
 
-      pub mined_sound : So (sound ws')
-      mined_sound = rw mined_words (fit_sound (fresh n m rows) mined_fit)
+    pub mined_sound : So (sound ws')
+    mined_sound = rw mined_words (fit_sound (fresh n m rows) mined_fit)

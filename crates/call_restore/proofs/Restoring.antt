@@ -16,8 +16,6 @@ use Rattle.model.specs.Calls.{unfit, edit}
 use Rattle.model.proofs.Refusals.{restore_is_6, restore_is_7, restore_iff}
 use Rattle.rows.specs.Linked.{Ready}
 use Rattle.calls_edit.proofs.Edits.{replied_with, edit_accepted, role_count, standing_word}
-use Rattle.call_restore.specs.declared.RestoreAnswer.{RestoreAnswer}
-use Rattle.call_restore.specs.Results.{restore_result}
 
 module _ (ws index seniors : List ℕ) (ready : Ready (state_of ws) ws index seniors) (k : ℕ) where
   count : get_or ws 2 0 ≡ candidate_count (roles_of (state_of ws))
@@ -40,13 +38,8 @@ module _ (ws index seniors : List ℕ) (ready : Ready (state_of ws) ws index sen
     restore_0 gone = sym ((restore_iff (state_of ws) k).1 (below, sym mark ∙ gone))
 
 -- the record with the role
-pub restored : (ws after index seniors : List ℕ) (k : ℕ) (r : RestoreAnswer) → unfit ws ≡ 0 → refusal (state_of ws) (restore k) ≡ 0 → r.code ≡ 0
-    → Ready (standing_now (state_of ws) ((state_of ws).standing ∪ single k)) after index seniors → restore_result r after ≡ edit ws (restore k)
-unfolding restore_result accepted
-restored ws after index seniors k r z e ec done =
-    (λ i. replied_with (ec i) after) ∙ edit_accepted ws (restore k) z e (accepted (state_of ws) (restore k)) after refl done.afresh
-
--- and as it was
-pub refused : (ws : List ℕ) (k code : ℕ) (r : RestoreAnswer) → r.code ≡ code → replied_with code ws ≡ edit ws (restore k) → restore_result r ws ≡ edit ws (restore k)
-unfolding restore_result
-refused ws k code r ec e = (λ i. replied_with (ec i) ws) ∙ e
+pub restored : (ws after index seniors : List ℕ) (k : ℕ) → unfit ws ≡ 0 → refusal (state_of ws) (restore k) ≡ 0
+    → Ready (standing_now (state_of ws) ((state_of ws).standing ∪ single k)) after index seniors → replied_with 0 after ≡ edit ws (restore k)
+unfolding accepted
+restored ws after index seniors k z e done =
+    edit_accepted ws (restore k) z e (accepted (state_of ws) (restore k)) after refl done.afresh

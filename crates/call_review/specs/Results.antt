@@ -1,9 +1,12 @@
--- The answer with the record as the call leaves it, in the form in which the model gives it.
+-- What the call gives back, with the record as it leaves it, in the form in which the model says it.
 -- Assumes nothing.
-use Rattle.std.specs.Prelude.{List, ℕ}
+use Rattle.std.specs.Prelude.{List, ℕ, Result, Ok, Err}
 use Rattle.model.specs.Machine.{reply}
 use Rattle.model.specs.Calls.{Edited}
-use Rattle.call_review.specs.declared.ReviewAnswer.{ReviewAnswer}
+use Rattle.refusals.specs.declared.Refusal.{Refusal}
+use Rattle.refusals.specs.Numbers.{number_of}
+use Rattle.call_review.specs.declared.Reviewed.{Reviewed}
 
-unfoldable pub review_result : ReviewAnswer → List ℕ → Edited
-review_result r ws = record { replied = reply r.code r.restored r.examined; words = ws }
+abbrev pub review_result : Result Reviewed Refusal → List ℕ → Edited
+review_result (Ok done) ws = record { replied = reply 0 done.restored done.examined; words = ws }
+review_result (Err r) ws = record { replied = reply (number_of r) 0 0; words = ws }

@@ -10,28 +10,23 @@ use calls::{enter, weights_refusal};
 use edit_review::review_all;
 use indexes::INDEX_LENGTH;
 use quality::{Weights, count_rows};
+use refusals::Refusal;
 
-// The refusal's number, or 0, and beside 0 how many roles were restored, and how many were examined.
-#[repr(C)]
+// How many roles a review restored, and how many it examined.
 #[derive(Clone, Copy)]
-pub struct ReviewAnswer {
-    pub code: u64,
+pub struct Reviewed {
     pub restored: u64,
     pub examined: u64,
 }
 
-fn refused(code: u64) -> ReviewAnswer
-    ensures { (result.code ≡ code) × (result.restored ≡ 0) × (result.examined ≡ 0) }
-{
-    ReviewAnswer {
-        code,
-        restored: 0,
-        examined: 0,
-    }
-}
-
 // Restores absent candidates, by growing number and in passes, where that makes the quality strictly smaller.
-pub fn panel_review(rec: &mut [u64], w1: u64, w2: u64, w3: u64, w4: u64) -> ReviewAnswer
+pub fn panel_review(
+    rec: &mut [u64],
+    w1: u64,
+    w2: u64,
+    w3: u64,
+    w4: u64,
+) -> Result<Reviewed, Refusal>
     ensures { review_result result rec.new ≡ edit rec.old (review (weights_of w1 w2 w3 w4)) }
 {
     let weights = Weights {
@@ -42,19 +37,12 @@ pub fn panel_review(rec: &mut [u64], w1: u64, w2: u64, w3: u64, w4: u64) -> Revi
     };
     let mut index = [0u64; INDEX_LENGTH];
     let mut seniors = [0u64; 256];
-    let unfit = enter(rec, &mut index, &mut seniors);
-    if unfit != 0 {
-        return refused(unfit);
-    }
-    let code = weights_refusal(weights);
-    if code != 0 {
-        return refused(code);
-    }
+    enter(rec, &mut index, &mut seniors)?;
+    weights_refusal(weights)?;
     let counts = count_rows(rec);
     let run = review_all(rec, &index, &mut seniors, weights, counts);
-    ReviewAnswer {
-        code: 0,
+    Ok(Reviewed {
         restored: run.changed,
         examined: run.examined,
-    }
+    })
 }

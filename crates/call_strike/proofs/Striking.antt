@@ -18,8 +18,6 @@ use Rattle.model.proofs.Refusals.{strike_is_6, strike_is_7, strike_is_8, strike_
 use Rattle.indexes.specs.Index.{Indexed}
 use Rattle.rows.specs.Linked.{Ready}
 use Rattle.calls_edit.proofs.Edits.{replied_with, edit_accepted, role_count, standing_word}
-use Rattle.call_strike.specs.declared.StrikeAnswer.{StrikeAnswer}
-use Rattle.call_strike.specs.Results.{strike_result}
 
 module _ (ws index seniors : List ℕ) (ready : Ready (state_of ws) ws index seniors) (k : ℕ) where
   count : get_or ws 2 0 ≡ candidate_count (roles_of (state_of ws))
@@ -50,13 +48,8 @@ module _ (ws index seniors : List ℕ) (ready : Ready (state_of ws) ws index sen
       strike_0 h = sym ((strike_iff (state_of ws) k).1 (below, sym mark ∙ here, sym able ∙ h))
 
 -- the record without the role
-pub struck : (ws after index seniors : List ℕ) (k : ℕ) (r : StrikeAnswer) → unfit ws ≡ 0 → refusal (state_of ws) (strike k) ≡ 0 → r.code ≡ 0
-    → Ready (standing_now (state_of ws) ((state_of ws).standing ∖ single k)) after index seniors → strike_result r after ≡ edit ws (strike k)
-unfolding strike_result accepted
-struck ws after index seniors k r z e ec done =
-    (λ i. replied_with (ec i) after) ∙ edit_accepted ws (strike k) z e (accepted (state_of ws) (strike k)) after refl done.afresh
-
--- and as it was
-pub refused : (ws : List ℕ) (k code : ℕ) (r : StrikeAnswer) → r.code ≡ code → replied_with code ws ≡ edit ws (strike k) → strike_result r ws ≡ edit ws (strike k)
-unfolding strike_result
-refused ws k code r ec e = (λ i. replied_with (ec i) ws) ∙ e
+pub struck : (ws after index seniors : List ℕ) (k : ℕ) → unfit ws ≡ 0 → refusal (state_of ws) (strike k) ≡ 0
+    → Ready (standing_now (state_of ws) ((state_of ws).standing ∖ single k)) after index seniors → replied_with 0 after ≡ edit ws (strike k)
+unfolding accepted
+struck ws after index seniors k z e done =
+    edit_accepted ws (strike k) z e (accepted (state_of ws) (strike k)) after refl done.afresh

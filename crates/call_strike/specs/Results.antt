@@ -1,10 +1,11 @@
--- The answer with the record as the call leaves it, in the form in which the model gives it.
+-- What the call gives back, with the record as it leaves it, in the form in which the model says it.
 -- Assumes nothing.
-use Rattle.std.specs.Prelude.{List, ℕ}
+use Rattle.std.specs.Prelude.{List, ℕ, Result}
 use Rattle.model.specs.Machine.{reply}
 use Rattle.model.specs.Calls.{Edited}
-use Rattle.call_strike.specs.declared.StrikeAnswer.{StrikeAnswer}
+use Rattle.refusals.specs.declared.Refusal.{Refusal}
+use Rattle.refusals.specs.Numbers.{code_of}
 
 -- no number stands beside that of a refusal
-unfoldable pub strike_result : StrikeAnswer → List ℕ → Edited
-strike_result r ws = record { replied = reply r.code 0 0; words = ws }
+abbrev pub strike_result : {A : Type 0} → Result A Refusal → List ℕ → Edited
+strike_result r ws = record { replied = reply (code_of r) 0 0; words = ws }

@@ -18,7 +18,11 @@ use Rattle.stores.specs.Stores.{put_at}
 use Rattle.stores.proofs.Stores.{part_back}
 use Rattle.text_lines.specs.Format.{crew_text}
 use Rattle.text_write.specs.Text.{record_text}
-use Rattle.call_write.specs.declared.CrewWritten.{CrewWritten}
+use Rattle.std.specs.Prelude.{Ok, Err}
+use Rattle.refusals.specs.declared.Refusal.{Refusal}
+use Rattle.refusals.specs.declared.Refusal.TheVariants.{Short}
+use Rattle.refusals.specs.Numbers.{number_of}
+use Rattle.refusals.proofs.Numbers.{some_number}
 use Rattle.call_write.specs.Writer.{write_refusal, Written, write_crew}
 use Rattle.call_write.specs.Results.{write_result}
 
@@ -71,30 +75,26 @@ pub room_known : (ws : List ℕ) (size most : ℕ) → ((rows : List ℕ) → si
     → length (record_text ws) ≤ most
 room_known ws size most h l = omega (arith, length_known ws size h)
 
-module _ (ws buffer left : List ℕ) (r : CrewWritten) where
+module _ (ws buffer : List ℕ) where
   -- a refused one: by the entrance, or for the buffer's length
-  module _ (code : ℕ) (e : (r.code ≡ code) × (r.length ≡ 0)) (same : left ≡ buffer) where
-    found : code ≢ 0 → write_refusal ws buffer ≡ code → write_result r left ≡ write_crew ws buffer
-    unfolding write_result
-    found some h =
-        (λ i. record { code = (e.0 ∙ sym h) i; size = e.1 i; bytes = same i }) ∙ sym (write_refused ws buffer (λ z. some (sym h ∙ z)))
+  found : (r : Refusal) → write_refusal ws buffer ≡ number_of r → write_result (Err r) buffer ≡ write_crew ws buffer
+  found r h =
+      (λ i. record { code = (sym h) i; size = 0; bytes = buffer }) ∙ sym (write_refused ws buffer (λ z. some_number r (sym h ∙ z)))
 
-    pub write_unfit : code ≢ 0 → code ≡ unfit ws → write_result r left ≡ write_crew ws buffer
-    unfolding write_refusal
-    write_unfit some h = found some (or_else_first (unfit ws) _ (λ z. some (h ∙ z)) ∙ sym h)
-
-  pub write_short : (size : ℕ) → unfit ws ≡ 0 → size ≡ length (record_text ws) → length buffer < size → (r.code ≡ 11) × (r.length ≡ 0) → left ≡ buffer
-      → write_result r left ≡ write_crew ws buffer
+  pub write_unfit : (r : Refusal) → number_of r ≡ unfit ws → write_result (Err r) buffer ≡ write_crew ws buffer
   unfolding write_refusal
-  write_short size z es l e same =
-      found 11 e same (λ (x : 11 ≡ 0). let no : ⊥ = omega arith in no)
+  write_unfit r h = found r (or_else_first (unfit ws) _ (λ z. some_number r (h ∙ z)) ∙ sym h)
+
+  pub write_short : (size : ℕ) → unfit ws ≡ 0 → size ≡ length (record_text ws) → length buffer < size → write_result (Err Short) buffer ≡ write_crew ws buffer
+  unfolding write_refusal
+  write_short size z es l =
+      found Short
       (or_else_next (unfit ws) _ z ∙ (space_check (length (record_text ws)) buffer).stops (λ (k : length (record_text ws) ≤ length buffer). let no : ⊥ = omega arith in no))
 
   -- and one that is answered
-  pub write_given : unfit ws ≡ 0 → length (record_text ws) ≤ length buffer → r.code ≡ 0 → r.length ≡ length (record_text ws)
-      → left ≡ put_at buffer 0 (record_text ws) → write_result r left ≡ write_crew ws buffer
-  unfolding write_result
-  write_given z room ec el eb =
+  pub write_given : (size : ℕ) (left : List ℕ) → unfit ws ≡ 0 → length (record_text ws) ≤ length buffer → size ≡ length (record_text ws)
+      → left ≡ put_at buffer 0 (record_text ws) → write_result (Ok size) left ≡ write_crew ws buffer
+  write_given size left z room es eb =
       let text = record_text ws in
       let b : left ≡ text ++ drop (length text) buffer = eb ∙ sym (part_back buffer 0 (length text) text refl (omega arith)) in
-      (λ i. record { code = ec i; size = el i; bytes = b i }) ∙ sym (write_accepted ws buffer ((write_iff ws buffer).1 ((unfit_iff ws).0 z, room)))
+      (λ i. record { code = 0; size = es i; bytes = b i }) ∙ sym (write_accepted ws buffer ((write_iff ws buffer).1 ((unfit_iff ws).0 z, room)))

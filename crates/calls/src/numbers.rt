@@ -2,29 +2,27 @@
 ghost use Rattle.std.specs.Prelude.{◌≡◌};
 ghost use Rattle.model.specs.Refusals.{pair_refusal, weights_refusal};
 ghost use Rattle.quality.specs.Numbers.{weights_in};
+ghost use Rattle.refusals.specs.Numbers.{code_of};
 
 use quality::{Weights, weights_allowed};
-use refusals::{REFUSED_NUMBER, REFUSED_RANGE};
+use refusals::Refusal;
 
-// 9, or 0 where the weights are in their range.
-pub fn weights_refusal(w: Weights) -> u64
-    ensures { result ≡ weights_refusal (weights_in w) }
+// Refuses weights outside their range.
+pub fn weights_refusal(w: Weights) -> Result<(), Refusal>
+    ensures { code_of result ≡ weights_refusal (weights_in w) }
 {
     if !weights_allowed(w) {
-        return REFUSED_RANGE;
+        return Err(Refusal::Range);
     }
-    0
+    Ok(())
 }
 
-// 6, or 0 where user u is below n and permission p below m.
-pub fn pair_refusal(n: u64, m: u64, u: u64, p: u64) -> u64
-    ensures { result ≡ pair_refusal n m u p }
+// Refuses a user u that is not below n, and a permission p that is not below m.
+pub fn pair_refusal(n: u64, m: u64, u: u64, p: u64) -> Result<(), Refusal>
+    ensures { code_of result ≡ pair_refusal n m u p }
 {
-    if n <= u {
-        return REFUSED_NUMBER;
+    if n <= u || m <= p {
+        return Err(Refusal::Number);
     }
-    if m <= p {
-        return REFUSED_NUMBER;
-    }
-    0
+    Ok(())
 }

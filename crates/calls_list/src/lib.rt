@@ -20,12 +20,10 @@ pub fn can_read(calls: &[u64], out: &[u64]) -> bool
     if out.len() != ANSWER * n {
         return false;
     }
-    let mut i = 0;
-    while i < n {
+    for i in 0..n {
         if 4 <= calls[CALL * i] {
             return false;
         }
-        i += 1;
     }
     true
 }

@@ -13,7 +13,7 @@ use lib.Seq.{get_or-set_same, get_or-set_other}
 use Rattle.sets.specs.Sets.{has, collect}
 use Rattle.sets.specs.Words.{value}
 use Rattle.sets.proofs.Truth.{either, below_suc}
-use Rattle.sets.proofs.Items.{same_below, has-zero, has_above}
+use Rattle.sets.proofs.Members.{same_below, has-zero, has_above}
 use Rattle.sets.proofs.Order.{collect-zero, collect_lt, has-collect, collect_same, collect-none}
 use Rattle.sets.proofs.Words.{Words, value_lt, value_one, value-collect, has_value}
 use Rattle.model.specs.Lists.{elems, set_at}

@@ -8,8 +8,8 @@ ghost use Rattle.columns.specs.Loading.{Loaded};
 
 use crate::one::{column, in_first_word};
 use blocks::transpose;
-use sets_128::Set128;
-use tables::store128;
+use sets::Set128;
+use tables::store;
 
 // The columns of a table of n sets: entry k holds the places whose set holds k. A few are gathered one by one, since a block has 64.
 pub fn fill_columns(table: &[u64], n: usize, c: usize, out: &mut [u64])
@@ -27,10 +27,8 @@ fn fill_few_columns(table: &[u64], n: usize, c: usize, out: &mut [u64])
     requires { (n ≤ 128) × (2 * n ≤ length table.now) × (length out.old ≡ table128_length) × (c ≤ 128) }
     ensures { Filled 2 c (λ k. collect n (λ i. has (set_at 2 table.now (2 * i)) k)) out.old out.new }
 {
-    let mut k = 0;
-    while k < c {
-        store128(out, 2 * k, column(table, n, k));
-        k += 1;
+    for k in 0..c {
+        store(out, 2 * k, column(table, n, k));
     }
 }
 
@@ -39,10 +37,8 @@ pub fn fill_columns_of(table: &[u64], w: usize, n: usize, c: usize, out: &mut [u
     requires { (w ≤ 4) × (n ≤ 128) × (w * n ≤ length table.now) × (c ≤ 64 * w) × (2 * c ≤ length out.old) }
     ensures { Filled 2 c (λ k. collect n (λ i. has (set_at w table.now (w * i)) k)) out.old out.new }
 {
-    let mut j = 0;
-    while 64 * j < c {
+    for j in 0..c.div_ceil(64) {
         fill_word(table, w, n, j, c, out);
-        j += 1;
     }
 }
 
@@ -76,10 +72,8 @@ fn load_words(table: &[u64], w: usize, from: usize, count: usize, j: usize, bloc
     requires { (length block.old ≡ 64) × (from ≤ 64) × (count ≤ 64) × ((q : ℕ) → q < count → w * (from + q) + j < length table.now) }
     ensures { Loaded count (λ q. get_or table.now (w * (from + q) + j) 0) block.old block.new }
 {
-    let mut q = 0;
-    while q < count {
+    for q in 0..count {
         block[q] = table[w * (from + q) + j];
-        q += 1;
     }
 }
 
@@ -88,9 +82,7 @@ fn store_pairs(low: &[u64], high: &[u64], at: usize, count: usize, out: &mut [u6
     requires { (length low.now ≡ 64) × (length high.now ≡ 64) × (count ≤ 64) × (2 * (at + count) ≤ length out.old) }
     ensures { (f : ℕ → ℕ) (before : List ℕ) → ((b : ℕ) → b < count → value (get_or low.now b 0 ∷ get_or high.now b 0 ∷ []) ≡ f (at + b)) → Filled 2 at f before out.old → Filled 2 (at + count) f before out.new }
 {
-    let mut b = 0;
-    while b < count {
-        store128(out, 2 * (at + b), Set128::from_words([low[b], high[b]]));
-        b += 1;
+    for b in 0..count {
+        store(out, 2 * (at + b), Set128::from_words([low[b], high[b]]));
     }
 }

@@ -1,16 +1,15 @@
 ghost use Rattle.std.specs.Prelude.{◌≡◌, ℕ, ◌+◌, ◌*◌, ◌≤◌, ◌<◌, min, length, get_or};
-ghost use Rattle.sets_128.specs.Held.{set128};
+ghost use Rattle.sets.specs.Held.{set_of};
 ghost use Rattle.sets.specs.Sets.{has, collect};
 ghost use Rattle.model.specs.Lists.{set_at};
 
-use sets::{place_of, with_bit};
-use sets_128::Set128;
+use sets::{Set128, place_of, with_bit};
 
 // The places below n whose set in the table holds k: a column of the table, read downward.
 pub fn column(table: &[u64], n: usize, k: usize) -> Set128
     requires n_bound { n ≤ 128 }
     requires n_in_bounds { 2 * n ≤ length table.now }
-    ensures { set128 result ≡ collect n (λ i. has (set_at 2 table.now (2 * i)) k) }
+    ensures { set_of result ≡ collect n (λ i. has (set_at 2 table.now (2 * i)) k) }
 {
     column_of(table, 2, n, k)
 }
@@ -19,7 +18,7 @@ pub fn column(table: &[u64], n: usize, k: usize) -> Set128
 pub fn column_of(table: &[u64], w: usize, n: usize, k: usize) -> Set128
     requires n_bound { n ≤ 128 }
     requires n_in_bounds { w * n ≤ length table.now }
-    ensures { set128 result ≡ collect n (λ i. has (set_at w table.now (w * i)) k) }
+    ensures { set_of result ≡ collect n (λ i. has (set_at w table.now (w * i)) k) }
 {
     let p = place_of(k);
     let j = p.word;
@@ -38,7 +37,7 @@ pub fn column_of(table: &[u64], w: usize, n: usize, k: usize) -> Set128
 pub fn in_first_word(n: usize) -> usize
     ensures { result ≡ min n 64 }
 {
-    if n < 64 { n } else { 64 }
+    n.min(64)
 }
 
 // Bit b of word j of `count` sets from set `from` on.
@@ -47,10 +46,8 @@ fn gather(table: &[u64], w: usize, from: usize, count: usize, j: usize, b: usize
     ensures { result ≡ collect count (λ q. has (get_or table.now (w * (from + q) + j) 0) b) }
 {
     let mut bits = 0;
-    let mut q = 0;
-    while q < count {
+    for q in 0..count {
         bits = with_bit(bits, q, (table[w * (from + q) + j] >> b) & 1 == 1);
-        q += 1;
     }
     bits
 }

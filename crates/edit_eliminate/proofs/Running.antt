@@ -9,7 +9,7 @@ use native.Mathlib.Omega.{arith}
 use lib.Count.{ones}
 use lib.Dec.{ltb}
 use lib.ListN.{get_or, take}
-use Rattle.sets_128.specs.Held.{set128}
+use Rattle.sets.specs.Held.{set_of}
 use Rattle.sets.specs.Sets.{collect}
 use Rattle.sets.proofs.Truth.{ltb_iff}
 use Rattle.sets.proofs.Order.{collect_iff}
@@ -63,7 +63,7 @@ module _ (ws index : List ℕ) (terms : Terms) where
   begun turn e = ap (passes ρ (take_up_by ρ terms) (suc (candidate_count ρ))) (sym e)
 
   -- where no role is strikable, it ends as it begins
-  pub ended_at_once : (seniors : List ℕ) (turn : Turn) → RunReached (state_of ws) ws index seniors turn start → set128 turn.worklist ≡ 0
+  pub ended_at_once : (seniors : List ℕ) (turn : Turn) → RunReached (state_of ws) ws index seniors turn start → set_of turn.worklist ≡ 0
       → EliminationEnded (state_of ws) ws index seniors turn.progress end
   unfolding run_in run_at
   ended_at_once seniors turn from none =
@@ -80,7 +80,7 @@ module _ (ws index : List ℕ) (terms : Terms) where
     pub rest : end ≡ passes ρ (take_up_by ρ terms) left (run_in mid turn)
 
   pub running_start : (work : List ℕ) (turn : Turn) (left : ℕ) → RunReached (state_of ws) ws index (take down_start work) turn start → Prepared (roles_of (state_of ws)) work
-      → left ≡ get_or ws 2 0 + 1 → Running ws work turn (set128 turn.worklist) left
+      → left ≡ get_or ws 2 0 + 1 → Running ws work turn (set_of turn.worklist) left
   unfolding run_in run_at begin
   running_start work turn left from prepared el =
       let ready = from.underway.in_step.ready in
@@ -106,12 +106,12 @@ module _ (ws index : List ℕ) (terms : Terms) where
       one_more : end ≡ passes ρ (take_up_by ρ terms) (suc (left - 1)) (run_in mid turn)
       one_more = p.rest ∙ ap (λ (n : ℕ). passes ρ (take_up_by ρ terms) n (run_in mid turn)) (let e : left ≡ suc (left - 1) = omega arith in e)
 
-      pub running_empty : set128 turn.worklist ≡ 0 → EliminationEnded (state_of ws) mid index (take down_start work) turn.progress end
+      pub running_empty : set_of turn.worklist ≡ 0 → EliminationEnded (state_of ws) mid index (take down_start work) turn.progress end
       unfolding run_in run_at
       running_empty e =
           ended mid (take down_start work) turn p.underway p.same_crew (one_more ∙ passes_empty ρ (take_up_by ρ terms) (left - 1) (run_in mid turn) e)
 
-      module _ (listed : set128 turn.worklist ≢ 0) (after work' : List ℕ) (r : Turn)
+      module _ (listed : set_of turn.worklist ≢ 0) (after work' : List ℕ) (r : Turn)
           (done : RunReached (state_of mid) after index (take down_start work') r (pass (roles_of (state_of mid)) (take_up_by (roles_of (state_of mid)) terms) (run_in mid turn))) where
         next_run : run_in after r ≡ pass (roles_of (state_of ws)) (take_up_by (roles_of (state_of ws)) terms) (run_in mid turn)
         next_run = rw (crew_roles (state_of ws) mid p.same_crew) at done.run
@@ -129,8 +129,8 @@ module _ (ws index : List ℕ) (terms : Terms) where
             → Running after work' r counted' (left - 1)
         unfolding run_in run_at
         running_more d prepared counted' found =
-            let few = stand_few mid index (take down_start work) (set128 turn.worklist) p.underway.in_step.ready p.underway.listed in
-            let examined : r.progress.examined ≡ turn.progress.examined + ones (set128 turn.worklist) =
+            let few = stand_few mid index (take down_start work) (set_of turn.worklist) p.underway.in_step.ready p.underway.listed in
+            let examined : r.progress.examined ≡ turn.progress.examined + ones (set_of turn.worklist) =
             ap (λ (x : Run). x.examined) next_run ∙ pass_examined ρ (take_up_by ρ terms) (up_examined ρ terms) (run_in mid turn) in
             let room = p.room in
             let ready = done.underway.in_step.ready in
@@ -160,7 +160,7 @@ module _ (ws index seniors : List ℕ) (ready : Ready (state_of ws) ws index sen
   module _ (index' : List ℕ) (indexed : Indexed (roles_of (state_of ws)) index') (held : AllHolders (roles_of (state_of ws)) index') where
     pub first_turn : (w : Weights) (turn : Turn) → Exact ws turn.progress.counts
         → turn.progress.quality ≡ model.weigh (weights_in w) (counts_in turn.progress.counts) → turn.progress.quality ≤ most_quality
-        → turn.progress.changed ≡ 0 → turn.progress.examined ≡ 0 → Found ws index' (set128 turn.worklist)
+        → turn.progress.changed ≡ 0 → turn.progress.examined ≡ 0 → Found ws index' (set_of turn.worklist)
         → RunReached (state_of ws) ws index' seniors turn (begin (roles_of (state_of ws)) (weights_in w) (strikables (roles_of (state_of ws)) (state_of ws).standing) (state_of ws).standing)
     unfolding run_in run_at begin model.quality
     first_turn w turn exact eq small ec ee found =

@@ -19,7 +19,7 @@ use edit_turn::{Terms, Turn};
 use edit_work::fill_order;
 use holders::fill_holders;
 use quality::{Counts, weigh};
-use sets_256::Set256;
+use sets::Set256;
 
 // Passes, from the strikable roles on, while the worklist is not empty and the pass before struck something. Each before the last strikes a role, so
 // c + 1 are enough.
@@ -38,10 +38,10 @@ fn run_passes(
     requires work_len { length work.old ≡ work_length }
     ensures { EliminationEnded (state_of rec.old) rec.new index.now (take down_start work.new) result (eliminated (roles_of (state_of rec.old)) (weights_in terms.weights) (tolerance_in terms.tolerance) (state_of rec.old).standing) }
 {
-    let mut left = rec[2] as usize + 1;
+    let c = rec[2] as usize;
     let mut run = turn;
     let mut counted = turn.worklist;
-    while 0 < left {
+    for _pass in 0..c + 1 {
         if run.worklist.is_empty() {
             return run.progress;
         }
@@ -51,7 +51,6 @@ fn run_passes(
         }
         run = next;
         counted = strikable_roles(rec, index);
-        left -= 1;
     }
     run.progress
 }

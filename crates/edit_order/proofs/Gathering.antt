@@ -8,7 +8,7 @@ use Prim.Native.Nat.{ℕ}
 use Rattle.sets.specs.Truth.{when◌then◌else◌}
 use Rattle.sets.specs.Sets.{has, ◌∪◌, ◌∖◌, single}
 use Rattle.sets.proofs.Truth.{by_test, So-not, when-true, when-false, equal_or}
-use Rattle.sets.proofs.Items.{same_set, has-zero}
+use Rattle.sets.proofs.Members.{same_set, has-zero}
 use Rattle.sets.proofs.Order.{∪-iff, ∖-iff, single_iff}
 use Rattle.model.specs.Lists.{set_at}
 use Rattle.model.specs.Hierarchy.{direct_permissions}

@@ -8,12 +8,11 @@ use Prim.Native.Nat.{ℕ, ◌+◌, ◌-◌, ◌*◌, ◌^◌, ◌≤◌, ◌<◌
 use native.Mathlib.Omega.{arith}
 use borrow.Rule.Slice.PartMut.{put_mid}
 use lib.Dec.{ltb}
-use lib.ListN.{length, get_or, take, drop, set}
-use lib.Seq.{get_or-set_same, get_or-set_other}
+use lib.ListN.{length, get_or, take, drop}
 use Rattle.sets.specs.Truth.{when◌then◌else◌}
 use Rattle.sets.specs.Sets.{has, ◌∪◌, ◌∖◌, single}
 use Rattle.sets.proofs.Truth.{either, equal_or, So-not, ltb_iff, when-true}
-use Rattle.sets.proofs.Items.{has-zero, item_below}
+use Rattle.sets.proofs.Members.{has-zero, item_below}
 use Rattle.sets.proofs.Order.{∪-iff, ∖-iff, single_iff}
 use Rattle.model.specs.Hierarchy.{Roles, candidate_count}
 use Rattle.model.specs.Machine.{redundancy}
@@ -28,11 +27,6 @@ use Rattle.indexes.proofs.Sources.{set_at-zero}
 use Rattle.edit_order.specs.Ranking.{Keyed}
 use Rattle.edit_work.specs.Work.{work_length, ranks_start, ranks_length, entry, Unchanged, Prepared, PreparedFor}
 use Rattle.edit_work.proofs.Work.{unchanged_below, unchanged_take, prepared_same}
-
--- one word more is zero
-pub zero_more : (ws : List ℕ) (i : ℕ) → ((j : ℕ) → j < i → get_or ws j 0 ≡ 0) → i < length ws → (j : ℕ) → j < i + 1 → get_or (set ws i 0) j 0 ≡ 0
-zero_more ws i zero l j lj =
-    equal_or j i (λ (d : j ≡ i). rw d (get_or-set_same ws i 0 0 l)) (λ d. get_or-set_other ws i j 0 0 d ∙ zero j (omega arith))
 
 -- ---- the ranks cleared
 

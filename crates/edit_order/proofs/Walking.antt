@@ -1,20 +1,18 @@
 -- The least over a walk that takes items out of a set, turn by turn; and that it is the redundancy.
 -- Assumes nothing.
-use mathlib.Core.Path.{◌≡◌, sym, ◌∙◌, ap, ap₂}
-use mathlib.Core.Bool.{So}
+use mathlib.Core.Path.{◌≡◌, refl, sym, ◌∙◌, ap, ap₂}
+use mathlib.Core.Bool.{Bool, true, false, So}
 use mathlib.Core.Logic.{◌↔◌}
 use mathlib.Core.List.{List}
-use Prim.Native.Nat.{ℕ, ◌^◌, ◌≤◌, ◌<◌}
+use Prim.Native.Nat.{ℕ, ◌^◌, ◌≤◌, ◌<◌, min}
 use native.Mathlib.Nat.{le_refl, le_trans, lt_irrefl}
 use native.Mathlib.Omega.{arith}
 use lib.Count.{ones}
-use lib.Dec.{ltb}
-use lib.ListN.{length}
-use borrow.Author.Tests.{lt-ltb, le-ltb}
+use Rattle.std.specs.Int.{from_bool}
 use Rattle.sets.specs.Truth.{when◌then◌else◌}
 use Rattle.sets.specs.Sets.{has, ◌∩◌, ◌∖◌, subset, collect}
-use Rattle.sets.proofs.Truth.{by_test, either, So-not, when-true, when-false}
-use Rattle.sets.proofs.Items.{has-zero, item_below}
+use Rattle.sets.proofs.Truth.{by_test, So-not, when-true, when-false}
+use Rattle.sets.proofs.Members.{has-zero, item_below}
 use Rattle.sets.proofs.Order.{∩-iff, ∩-lt, ∖-iff, subset_refl, collect_iff, collect_lt}
 use Rattle.sets.proofs.Counts.{ones_some, dropped_fewer}
 use Rattle.model.specs.Lists.{set_at}
@@ -27,15 +25,16 @@ use Rattle.model.specs.State.{State, roles_of}
 use Rattle.model.proofs.Ends.{AtMost, redundancy_iff, redundancy_ends, nearer_holder, nearer_user, sure_holders}
 use Rattle.model.proofs.Shortcuts.{down_from_iff}
 use Rattle.edit_order.specs.Ranking.{LeastTo}
-use Rattle.edit_work.specs.Work.{work_length, down_start, up_start, samples_start, holding_start, further_start, first_start, entry, holding, further, Prepared, PreparedFor}
+use Rattle.edit_work.specs.Work.{down_start, up_start, samples_start, holding_start, further_start, first_start, entry, holding, further, Prepared, PreparedFor}
 use Rattle.edit_work.proofs.Sampling.{with_roles_iff}
 
--- what a test of two numbers picks
-pub if-below : (a b x y : ℕ) → a < b → x ≡ (when ltb a b then x else y)
-if-below a b x y l = sym (when-true (ltb a b) x y (lt-ltb a b l))
+-- a test as a number
+one_or_none : (t : Bool) → from_bool t ≡ (when t then 1 else 0)
+one_or_none true = sym (when-true true 1 0 refl)
+one_or_none false = sym (when-false false 1 0 refl)
 
-pub if-not-below : (a b x y : ℕ) → b ≤ a → y ≡ (when ltb a b then x else y)
-if-not-below a b x y l = sym (when-false (ltb a b) x y (le-ltb a b l))
+pub number_of : (n : ℕ) (t b : Bool) → n ≡ from_bool t → t ≡ b → n ≡ (when b then 1 else 0)
+number_of n t b e f = e ∙ one_or_none t ∙ ap (λ (x : Bool). when x then 1 else 0) f
 
 -- ---- numbers known by what is no more than they
 
@@ -43,10 +42,8 @@ same_number : (m n : ℕ) → ((x : ℕ) → (x ≤ m) ↔ (x ≤ n)) → m ≡ 
 same_number m n f = let a = (f m).0 (le_refl m) in let b = (f n).1 (le_refl n) in omega arith
 
 -- the smaller of two
-smaller_iff : (a b m : ℕ) → m ≡ (when ltb a b then a else b) → (x : ℕ) → (x ≤ m) ↔ ((x ≤ b) × (x ≤ a))
-smaller_iff a b m e x =
-    either a b (λ l. let d : m ≡ a = e ∙ sym (if-below a b a b l) in (λ h. (omega arith, omega arith), λ h. let y = h.1 in omega arith))
-    (λ l. let d : m ≡ b = e ∙ sym (if-not-below a b a b l) in (λ h. (omega arith, omega arith), λ h. let y = h.0 in omega arith))
+smaller_iff : (a b m : ℕ) → m ≡ min a b → (x : ℕ) → (x ≤ m) ↔ ((x ≤ b) × (x ≤ a))
+smaller_iff a b m e x = (λ h. (omega arith, omega arith), λ h. let p = h.0 in let q = h.1 in omega arith)
 
 -- ---- walks: `rest` are the items of s not yet done. A number is no more than b and passes P at s exactly where it is no more than the
 -- least so far and passes P at those left
@@ -104,7 +101,7 @@ pub record HolderAsked (ws : List ℕ) (own m rest g m' : ℕ) : Type 0 where
   pub number : (x : ℕ) → (x ≤ m') ↔ ((x ≤ m) × One ws own x g)
 
 pub asked : (ws : List ℕ) (own m rest g up meet n m' : ℕ) → So (has rest g) → up ≡ entry ws up_start g → meet ≡ own ∩ up → n ≡ ones meet
-    → m' ≡ (when ltb n m then n else m) → HolderAsked ws own m rest g m'
+    → m' ≡ min n m → HolderAsked ws own m rest g m'
 asked ws own m rest g up meet n m' there eu em en e =
     let d : n ≡ ones (own ∩ entry ws up_start g) = en ∙ ap ones (em ∙ ap (λ (y : ℕ). own ∩ y) eu) in
     record { there = there; number = λ x. rw d at (smaller_iff n m m' e x) }
@@ -179,10 +176,6 @@ pub record WalkBegun (ws : List ℕ) (c k hs ss : ℕ) : Type 0 where
   pub low : k < c
   pub holders : hs ≡ entry ws down_start k ∩ set_at 2 ws first_start
   pub samples : ss ≡ entry ws holding_start k
-
--- all in the work
-pub in_work : (c k : ℕ) (ws : List ℕ) → PreparedFor c ws → k < c → (length ws ≡ work_length) × (k < 128)
-in_work c k ws given l = let n = given.1 in let f = given.2.reach.few in (given.2.reach.size, omega arith)
 
 module _ (ws : List ℕ) (c k hs ss : ℕ) (b : WalkBegun ws c k hs ss) where
   -- the samples and the first holders that are asked, in the tables of these roles

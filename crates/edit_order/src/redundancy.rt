@@ -1,7 +1,7 @@
 // The redundancy of a role.
-ghost use Rattle.std.specs.Prelude.{◌≡◌, ◌^◌, ◌≤◌, ◌<◌, ltb};
+ghost use Rattle.std.specs.Prelude.{◌≡◌, ◌^◌, ◌≤◌, ◌<◌};
 ghost use Rattle.std.specs.Int.Count.{ones};
-ghost use Rattle.sets_128.specs.Held.{set128};
+ghost use Rattle.sets.specs.Held.{set_of};
 ghost use Rattle.sets.specs.Sets.{has, ◌∩◌};
 ghost use Rattle.sets.specs.Truth.{when◌then◌else◌};
 ghost use Rattle.model.specs.Hierarchy.{Roles, candidate_count};
@@ -12,27 +12,14 @@ ghost use Rattle.edit_order.specs.Ranking.{LeastTo};
 ghost use Rattle.edit_work.specs.Work.{up_start, samples_start, entry, Prepared, PreparedFor};
 
 use edit_work::{DOWN, FIRST, FURTHER, HOLDING, SAMPLES, UP};
-use hierarchy::highest_item;
-use sets_128::Set128;
-use tables::load128;
-
-fn smaller(a: usize, b: usize) -> usize
-    ensures { result ≡ (when ltb a b then a else b) }
-{
-    if a < b {
-        return a;
-    }
-    b
-}
+use sets::Set128;
+use tables::load;
 
 // What the redundancy of k cannot be below: k itself covers each grant that it covers, so it is counted there if it is counted at all.
 fn floor_of(counted: Set128, k: usize) -> usize
-    ensures { result ≡ (when has (set128 counted) k then 1 else 0) }
+    ensures { result ≡ (when has (set_of counted) k then 1 else 0) }
 {
-    if counted.contains(k) {
-        return 1;
-    }
-    0
+    usize::from(counted.contains(k))
 }
 
 // One sample's part: the least of `bound` and, over these first holders, of how many counted roles of the sample are up from the holder. Those down
@@ -46,19 +33,19 @@ fn least_of(
     floor: usize,
 ) -> usize
     requires i_bound { i < 128 }
-    requires prepared { (ρ : Roles) × Prepared ρ work.now × (set128 holders < 2 ^ candidate_count ρ) }
-    ensures { LeastTo floor result bound (set128 holders) (λ g. ones (entry work.now samples_start i ∩ set128 counted ∩ entry work.now up_start g)) }
+    requires prepared { (ρ : Roles) × Prepared ρ work.now × (set_of holders < 2 ^ candidate_count ρ) }
+    ensures { LeastTo floor result bound (set_of holders) (λ g. ones (entry work.now samples_start i ∩ set_of counted ∩ entry work.now up_start g)) }
 {
-    let own = load128(work, SAMPLES + 2 * i).intersection(counted);
+    let own = load(work, SAMPLES + 2 * i).intersection(counted);
     let mut least = bound;
     let mut rest = holders;
-    while !rest.is_empty() {
-        let g = highest_item(rest);
-        least = smaller(own.intersection(load128(work, UP + 2 * g)).count(), least);
+    while let Some(g) = rest.highest() {
+        let covering = own.intersection(load(work, UP + 2 * g)).count();
+        least = covering.min(least);
         if least <= floor {
             return least;
         }
-        rest = rest.difference(load128(work, DOWN + 2 * g));
+        rest = rest.difference(load(work, DOWN + 2 * g));
     }
     least
 }
@@ -70,19 +57,18 @@ pub fn redundancy(work: &[u64], c: usize, counted: Set128, k: usize) -> usize
     requires prepared_for { PreparedFor c work.now }
     requires k_lt_c { k < c }
     ensures upper_bound { result ≤ c }
-    ensures value { (st : State) → Limits st → candidate_count (roles_of st) ≡ c → Prepared (roles_of st) work.now → result ≡ redundancy (roles_of st) (set128 counted) k }
+    ensures value { (st : State) → Limits st → candidate_count (roles_of st) ≡ c → Prepared (roles_of st) work.now → result ≡ redundancy (roles_of st) (set_of counted) k }
 {
     let floor = floor_of(counted, k);
-    let holders = load128(work, DOWN + 2 * k).intersection(load128(work, FIRST));
+    let holders = load(work, DOWN + 2 * k).intersection(load(work, FIRST));
     let mut least = c;
-    let mut samples = load128(work, HOLDING + 2 * k);
-    while !samples.is_empty() {
-        let i = highest_item(samples);
+    let mut samples = load::<2>(work, HOLDING + 2 * k);
+    while let Some(i) = samples.highest() {
         least = least_of(work, i, counted, holders, least, floor);
         if least <= floor {
             return least;
         }
-        samples = samples.difference(load128(work, FURTHER + 2 * i));
+        samples = samples.difference(load(work, FURTHER + 2 * i));
     }
     least
 }

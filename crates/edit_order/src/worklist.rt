@@ -1,6 +1,6 @@
 // The roles that an elimination begins with.
 ghost use Rattle.std.specs.Prelude.{◌≡◌, ◌<◌, length};
-ghost use Rattle.sets_128.specs.Held.{set128};
+ghost use Rattle.sets.specs.Held.{set_of};
 ghost use Rattle.sets.specs.Sets.{◌∪◌, single};
 ghost use Rattle.sets.specs.Truth.{when◌then◌else◌};
 ghost use Rattle.model.specs.Coverage.{strikables};
@@ -9,14 +9,13 @@ ghost use Rattle.model.specs.State.{State, roles_of};
 ghost use Rattle.indexes.specs.Index.{index_length, Indexed, AllHolders};
 
 use edit_test::removable;
-use hierarchy::lowest_item;
-use sets_128::Set128;
-use tables::{STANDING, load128};
+use sets::Set128;
+use tables::{STANDING, load};
 
 // The set with k in it where `strikable` says so.
 fn with_strikable(found: Set128, k: usize, strikable: bool) -> Set128
     requires { k < 128 }
-    ensures { set128 result ≡ (when strikable then set128 found ∪ single k else set128 found) }
+    ensures { set_of result ≡ (when strikable then set_of found ∪ single k else set_of found) }
 {
     if strikable {
         return found.insert(k);
@@ -28,14 +27,11 @@ fn with_strikable(found: Set128, k: usize, strikable: bool) -> Set128
 pub fn strikable_roles(rec: &[u64], index: &[u64]) -> Set128
     requires rec_len { length rec.now ≡ record_length }
     requires index_len { length index.now ≡ index_length }
-    ensures { (st : State) → Limits st → rec.now ≡ built st → Indexed (roles_of st) index.now → AllHolders (roles_of st) index.now → set128 result ≡ strikables (roles_of st) st.standing }
+    ensures { (st : State) → Limits st → rec.now ≡ built st → Indexed (roles_of st) index.now → AllHolders (roles_of st) index.now → set_of result ≡ strikables (roles_of st) st.standing }
 {
     let mut found = Set128::empty();
-    let mut rest = load128(rec, STANDING);
-    while !rest.is_empty() {
-        let k = lowest_item(rest);
+    for k in load::<2>(rec, STANDING).items() {
         found = with_strikable(found, k, removable(rec, index, k));
-        rest = rest.remove(k);
     }
     found
 }

@@ -8,10 +8,10 @@ use native.Mathlib.Nat.{le_trans}
 use native.Mathlib.Omega.{arith}
 use lib.Count.{ones, ones-le}
 use lib.ListN.{length, get_or, take, drop}
-use Rattle.sets_128.specs.Held.{set128}
+use Rattle.sets.specs.Held.{set_of}
 use Rattle.sets.specs.Sets.{has, ◌∖◌, single}
 use Rattle.sets.proofs.Truth.{not-So}
-use Rattle.sets.proofs.Items.{below_of_items, item_below}
+use Rattle.sets.proofs.Members.{below_of_items, item_below}
 use Rattle.sets.proofs.Order.{∖-iff, single_iff}
 use Rattle.sets.proofs.Counts.{ones_without, ones-zero}
 use Rattle.model.specs.Coverage.{strikables}
@@ -61,11 +61,11 @@ module _ (ws index : List ℕ) (terms : Terms) (at : Turn) where
     pub standing : Stand todo (state_of mid).standing
     pub keyed : Keyed top (take 258 (drop ranks_start beside)) todo key
     pub small : top ≤ 128
-    pub examined : turn.progress.examined + ones todo ≡ at.progress.examined + ones (set128 at.worklist)
+    pub examined : turn.progress.examined + ones todo ≡ at.progress.examined + ones (set_of at.worklist)
     pub run : pass ρ (take_up_by ρ terms) (run_in ws at) ≡ take_up_all ρ (take_up_by ρ terms) key (ones todo) todo (run_in mid turn)
 
   pub taking_start : (work : List ℕ) (top : ℕ) → top ≡ get_or ws 2 0 → Underway ws index (take down_start work) at → Prepared (roles_of (state_of ws)) work
-      → ByRedundancy ws work (set128 at.worklist) → Taking ws work at (set128 at.worklist) top
+      → ByRedundancy ws work (set_of at.worklist) → Taking ws work at (set_of at.worklist) top
   unfolding pass run_in run_at
   taking_start work top e u prepared ordered =
       let ready = u.in_step.ready in
@@ -86,7 +86,7 @@ module _ (ws index : List ℕ) (terms : Terms) (at : Turn) where
         → turn.progress.examined < most_examined
     taking_bound seniors k here u room =
         let a = ones_without todo k here in
-        let b = stand_few ws index seniors (set128 at.worklist) u.in_step.ready u.listed in
+        let b = stand_few ws index seniors (set_of at.worklist) u.in_step.ready u.listed in
         let e = p.examined in
         omega arith
 

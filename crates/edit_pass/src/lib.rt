@@ -2,7 +2,7 @@
 #![tactic(auto)]
 
 ghost use Rattle.std.specs.Prelude.{◌≡◌, ◌+◌, ◌≤◌, length, take};
-ghost use Rattle.sets_128.specs.Held.{set128};
+ghost use Rattle.sets.specs.Held.{set_of};
 ghost use Rattle.model.specs.Coverage.{strikables};
 ghost use Rattle.model.specs.Machine.{pass};
 ghost use Rattle.model.specs.Record.{record_length, state_of};
@@ -15,14 +15,14 @@ ghost use Rattle.edit_pass.specs.Passing.{ByRedundancy};
 use edit_order::{fill_ranks, foremost};
 use edit_turn::{Terms, Turn, take_up};
 use edit_work::{DOWN, RANKS, SENIORS, WORK_LENGTH};
-use sets_128::Set128;
+use sets::Set128;
 
 // Takes up each role of the worklist, the ranks in falling order.
 fn take_up_all(rec: &mut [u64], index: &[u64], work: &mut [u64], terms: Terms, turn: Turn) -> Turn
     requires underway { Underway rec.old index.now (take down_start work.old) turn }
     requires allowed { Allowed terms }
     requires prepared { Prepared (roles_of (state_of rec.old)) work.old }
-    requires by_redundancy { ByRedundancy rec.old work.old (set128 turn.worklist) }
+    requires by_redundancy { ByRedundancy rec.old work.old (set_of turn.worklist) }
     requires rec_len { length rec.old ≡ record_length }
     requires index_len { length index.now ≡ index_length }
     requires work_len { length work.old ≡ work_length }
@@ -33,6 +33,7 @@ fn take_up_all(rec: &mut [u64], index: &[u64], work: &mut [u64], terms: Terms, t
     let mut run = turn;
     let mut todo = turn.worklist;
     let mut top = rec[2] as usize;
+    // the next is the foremost by its key, so this is no walk in the set's own order
     while !todo.is_empty() {
         let front = foremost(&work[RANKS..WORK_LENGTH], todo, top);
         let k = front.role;
@@ -55,7 +56,7 @@ pub fn pass(
     requires underway { Underway rec.old index.now (take down_start work.old) turn }
     requires allowed { Allowed terms }
     requires prepared { Prepared (roles_of (state_of rec.old)) work.old }
-    requires counted_value { set128 counted ≡ strikables (roles_of (state_of rec.old)) (state_of rec.old).standing }
+    requires counted_value { set_of counted ≡ strikables (roles_of (state_of rec.old)) (state_of rec.old).standing }
     requires rec_len { length rec.old ≡ record_length }
     requires index_len { length index.now ≡ index_length }
     requires work_len { length work.old ≡ work_length }

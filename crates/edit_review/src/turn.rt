@@ -13,7 +13,7 @@ ghost use Rattle.tables.specs.Tables.{table128_length};
 use edit_rows::put_back_at;
 use edit_trials::{Progress, if_restored};
 use quality::{Weights, weigh};
-use tables::{STANDING, load128};
+use tables::{STANDING, load};
 
 // Takes up the candidate k, where it is absent: it is put back where the quality would then be strictly smaller, and else nothing is written.
 pub fn try_restore(
@@ -31,7 +31,7 @@ pub fn try_restore(
     requires rec_len { (length rec.old ≡ record_length) × (length index.now ≡ index_length) × (length seniors.old ≡ table128_length) }
     ensures { Stepped (try_restore (roles_of (state_of rec.old)) (weights_in w) k) rec.old at rec.new index.now seniors.new result }
 {
-    if load128(rec, STANDING).contains(k) {
+    if load::<2>(rec, STANDING).contains(k) {
         return at;
     }
     let before = at.counts;

@@ -31,10 +31,8 @@ fn review_pass(
 {
     let c = rec[2] as usize;
     let mut run = at;
-    let mut k = 0;
-    while k < c {
+    for k in 0..c {
         run = try_restore(rec, index, seniors, w, k, run);
-        k += 1;
     }
     run
 }
@@ -55,20 +53,19 @@ pub fn review_all(
     ensures same_crew_list { SameCrewList (state_of rec.old) rec.new }
     ensures result_after { run_at rec.new result 0 ≡ reviewed (roles_of (state_of rec.old)) (weights_in w) (state_of rec.old).standing }
 {
-    let mut left = rec[2] as usize + 1;
+    let c = rec[2] as usize;
     let mut run = Progress {
         counts,
         quality: weigh(counts, w),
         changed: 0,
         examined: 0,
     };
-    while 0 < left {
+    for _pass in 0..c + 1 {
         let next = review_pass(rec, index, seniors, w, run);
         if next.changed == run.changed {
             return next;
         }
         run = next;
-        left -= 1;
     }
     run
 }

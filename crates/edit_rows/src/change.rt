@@ -1,7 +1,7 @@
 // A role taken out, and put back.
 ghost use Rattle.std.specs.Prelude.{◌≡◌, false, ◌+◌, ◌*◌, ◌^◌, ◌<◌, eqb, length};
 ghost use Rattle.std.proofs.Math.Bool.{So};
-ghost use Rattle.sets_128.specs.Held.{set128};
+ghost use Rattle.sets.specs.Held.{set_of};
 ghost use Rattle.sets.specs.Sets.{has, ◌∪◌, ◌∖◌, single};
 ghost use Rattle.sets.specs.Truth.{when◌then◌else◌};
 ghost use Rattle.model.specs.Lists.{set_at};
@@ -17,8 +17,8 @@ ghost use Rattle.tables.specs.Tables.{table128_length};
 use hierarchy::{juniors_of, seniors_of};
 use indexes::{LOWER, ROLES};
 use rows::{relink_uppers, rewrite_lowers};
-use sets_128::Set128;
-use tables::{JUNIORS, MEMBERS, STANDING, load128, store128};
+use sets::Set128;
+use tables::{JUNIORS, MEMBERS, STANDING, load, store};
 
 // Brings the record to the standing set `standing`, where upper rows differ at most for the roles in `uppers`, and lower rows for those in `lowers`.
 fn change_standing(
@@ -32,9 +32,9 @@ fn change_standing(
     requires rec_len { length rec.old ≡ record_length }
     requires index_len { length index.now ≡ index_length }
     requires seniors_len { length seniors.old ≡ table128_length }
-    ensures { (st : State) → Ready st rec.old index.now seniors.old → set128 standing < 2 ^ candidate_count (roles_of st) → Differ (roles_of st) st.standing (set128 standing) (set128 uppers) (set128 lowers) → Ready (standing_now st (set128 standing)) rec.new index.now seniors.new }
+    ensures { (st : State) → Ready st rec.old index.now seniors.old → set_of standing < 2 ^ candidate_count (roles_of st) → Differ (roles_of st) st.standing (set_of standing) (set_of uppers) (set_of lowers) → Ready (standing_now st (set_of standing)) rec.new index.now seniors.new }
 {
-    store128(rec, STANDING, standing);
+    store(rec, STANDING, standing);
     relink_uppers(rec, index, seniors, standing, uppers);
     rewrite_lowers(rec, index, seniors, standing, lowers);
 }
@@ -44,9 +44,9 @@ fn change_standing(
 fn juniors_to_rewrite(rec: &[u64], k: usize, juniors: Set128) -> Set128
     requires rec_len { length rec.now ≡ record_length }
     requires k_bound { k < 128 }
-    ensures { set128 result ≡ (when eqb (set_at 2 rec.now (members_start + 2 * k)) 0 then 0 else set128 juniors) }
+    ensures { set_of result ≡ (when eqb (set_at 2 rec.now (members_start + 2 * k)) 0 then 0 else set_of juniors) }
 {
-    if load128(rec, MEMBERS + 2 * k).is_empty() {
+    if load::<2>(rec, MEMBERS + 2 * k).is_empty() {
         return Set128::empty();
     }
     juniors
@@ -65,9 +65,9 @@ pub fn take_out_at(
     requires index_len { length index.now ≡ index_length }
     requires seniors_len { length seniors.old ≡ table128_length }
     requires k_bound { k < 128 }
-    ensures { (st : State) → Ready st rec.old index.now seniors.old → So (has st.standing k) → Neighbours (roles_of st) st.standing k (set128 above) (set128 below) → Ready (standing_now st (st.standing ∖ single k)) rec.new index.now seniors.new }
+    ensures { (st : State) → Ready st rec.old index.now seniors.old → So (has st.standing k) → Neighbours (roles_of st) st.standing k (set_of above) (set_of below) → Ready (standing_now st (st.standing ∖ single k)) rec.new index.now seniors.new }
 {
-    let left = load128(rec, STANDING).remove(k);
+    let left = load(rec, STANDING).remove(k);
     let lowers = juniors_to_rewrite(rec, k, below);
     change_standing(rec, index, seniors, left, above.insert(k), lowers.insert(k));
 }
@@ -80,8 +80,8 @@ pub fn take_out(rec: &mut [u64], index: &[u64], seniors: &mut [u64], k: usize)
     requires k_bound { k < 128 }
     ensures { (st : State) → Ready st rec.old index.now seniors.old → So (has st.standing k) → Ready (standing_now st (st.standing ∖ single k)) rec.new index.now seniors.new }
 {
-    let above = load128(seniors, 2 * k);
-    let below = load128(rec, JUNIORS + 2 * k);
+    let above = load(seniors, 2 * k);
+    let below = load(rec, JUNIORS + 2 * k);
     take_out_at(rec, index, seniors, k, above, below);
 }
 
@@ -98,9 +98,9 @@ pub fn put_back_at(
     requires index_len { length index.now ≡ index_length }
     requires seniors_len { length seniors.old ≡ table128_length }
     requires k_bound { k < 128 }
-    ensures { (st : State) → Ready st rec.old index.now seniors.old → k < candidate_count (roles_of st) → has st.standing k ≡ false → Neighbours (roles_of st) (st.standing ∪ single k) k (set128 above) (set128 below) → Ready (standing_now st (st.standing ∪ single k)) rec.new index.now seniors.new }
+    ensures { (st : State) → Ready st rec.old index.now seniors.old → k < candidate_count (roles_of st) → has st.standing k ≡ false → Neighbours (roles_of st) (st.standing ∪ single k) k (set_of above) (set_of below) → Ready (standing_now st (st.standing ∪ single k)) rec.new index.now seniors.new }
 {
-    let more = load128(rec, STANDING).insert(k);
+    let more = load(rec, STANDING).insert(k);
     change_standing(rec, index, seniors, more, above.insert(k), below.insert(k));
 }
 
@@ -112,7 +112,7 @@ pub fn put_back(rec: &mut [u64], index: &[u64], seniors: &mut [u64], k: usize)
     requires k_bound { k < 128 }
     ensures { (st : State) → Ready st rec.old index.now seniors.old → k < candidate_count (roles_of st) → has st.standing k ≡ false → Ready (standing_now st (st.standing ∪ single k)) rec.new index.now seniors.new }
 {
-    let standing = load128(rec, STANDING);
+    let standing = load(rec, STANDING);
     let more = standing.insert(k);
     let above = seniors_of(&index[LOWER..ROLES], more, k);
     let below = juniors_of(&index[LOWER..ROLES], more, k);

@@ -10,8 +10,8 @@ ghost use Rattle.indexes.specs.Index.{index_length, Indexed, HoldersFor};
 
 use crate::walk::grants_covered;
 use holders::fill_holders;
-use sets_128::Set128;
-use tables::{MEMBERS, PERMISSIONS, load128, load256};
+use sets::Set128;
+use tables::{MEMBERS, PERMISSIONS, load};
 
 // Whether each grant that the standing role k covers is covered by another standing role. Only its direct members' direct permissions can be
 // left bare, so the walk is over these.
@@ -25,8 +25,8 @@ pub fn removable(rec: &[u64], index: &[u64], k: usize) -> bool
         rec,
         index,
         Set128::only(k),
-        load128(rec, MEMBERS + 2 * k),
-        load256(rec, PERMISSIONS + 4 * k),
+        load(rec, MEMBERS + 2 * k),
+        load(rec, PERMISSIONS + 4 * k),
     )
 }
 
@@ -39,6 +39,6 @@ pub fn can_strike(rec: &[u64], index: &mut [u64], k: usize) -> bool
     ensures value { (st : State) → Limits st → rec.now ≡ built st → Indexed (roles_of st) index.old → So (has st.standing k) → result ≡ strikable (roles_of st) st.standing k }
     ensures indexed { (ρ : Roles) → Indexed ρ index.old → Indexed ρ index.new }
 {
-    fill_holders(rec, index, load256(rec, PERMISSIONS + 4 * k));
+    fill_holders(rec, index, load(rec, PERMISSIONS + 4 * k));
     removable(rec, index, k)
 }

@@ -1,20 +1,38 @@
 // The walk over users and permissions that looks for a grant left bare.
-ghost use Rattle.std.specs.Prelude.{◌≡◌, ◌^◌, ◌<◌, length};
-ghost use Rattle.sets_128.specs.Held.{set128};
-ghost use Rattle.sets_256.specs.Held.{set256};
-ghost use Rattle.sets.specs.Sets.{◌∖◌};
+ghost use Rattle.std.specs.Prelude.{◌≡◌, ◌+◌, ◌*◌, ◌^◌, ◌<◌, eqb, length};
+ghost use Rattle.sets.specs.Held.{set_of};
+ghost use Rattle.sets.specs.Sets.{◌∩◌, ◌∖◌};
+ghost use Rattle.sets.specs.Truth.{isnt};
 ghost use Rattle.model.specs.Lists.{set_at};
 ghost use Rattle.model.specs.Hierarchy.{Roles};
 ghost use Rattle.model.specs.Record.{record_length};
-ghost use Rattle.indexes.specs.Index.{index_length};
-ghost use Rattle.edit_test.specs.Covering.{grants_covered, Asked};
+ghost use Rattle.indexes.specs.Index.{index_length, holders_start};
+ghost use Rattle.edit_test.specs.Covering.{user_covered, grants_covered, Asked};
 
-use hierarchy::lowest_item;
-use holders::lowest_permission;
 use indexes::{HOLDERS, ROLES};
-use sets_128::Set128;
-use sets_256::Set256;
-use tables::{CREW, STANDING, load128, load256};
+use sets::{Set128, Set256};
+use tables::{CREW, STANDING, load};
+
+// Whether one of these roles holds permission p.
+fn one_holds(index: &[u64], roles: Set128, p: usize) -> bool
+    requires index_len { length index.now ≡ index_length }
+    requires p_bound { p < 256 }
+    ensures { result ≡ isnt (eqb (set_of roles ∩ set_at 2 index.now (holders_start + 2 * p)) 0) }
+{
+    !roles.intersection(load(index, HOLDERS + 2 * p)).is_empty()
+}
+
+// Whether each grant of user u to these permissions is covered by one of these roles.
+fn user_covered(rec: &[u64], index: &[u64], roles: Set128, permissions: Set256, u: usize) -> bool
+    requires rec_len { length rec.now ≡ record_length }
+    requires index_len { length index.now ≡ index_length }
+    requires u_bound { u < 128 }
+    ensures { (ρ : Roles) → Asked ρ rec.now index.now (set_of permissions) → u < ρ.users → result ≡ user_covered ρ (set_of roles) (set_of permissions) u }
+{
+    let own = load(index, ROLES + 2 * u).intersection(roles);
+    let asked = permissions.intersection(load(rec, CREW + 4 * u));
+    asked.items().all(|p| one_holds(index, own, p))
+}
 
 // Whether each grant of these users to these permissions is covered by a standing role that is not among those left out.
 pub fn grants_covered(
@@ -26,24 +44,10 @@ pub fn grants_covered(
 ) -> bool
     requires rec_len { length rec.now ≡ record_length }
     requires index_len { length index.now ≡ index_length }
-    ensures { (ρ : Roles) → Asked ρ rec.now index.now (set256 permissions) → set128 users < 2 ^ ρ.users → result ≡ grants_covered ρ (set_at 2 rec.now 4 ∖ set128 without) (set128 users) (set256 permissions) }
+    ensures { (ρ : Roles) → Asked ρ rec.now index.now (set_of permissions) → set_of users < 2 ^ ρ.users → result ≡ grants_covered ρ (set_at 2 rec.now 4 ∖ set_of without) (set_of users) (set_of permissions) }
 {
-    let others = load128(rec, STANDING).difference(without);
-    let mut bare = false;
-    let mut rest = users;
-    'walk: while !rest.is_empty() {
-        let u = lowest_item(rest);
-        let own = load128(index, ROLES + 2 * u).intersection(others);
-        let mut asked = permissions.intersection(load256(rec, CREW + 4 * u));
-        while !asked.is_empty() {
-            let p = lowest_permission(asked);
-            if own.intersection(load128(index, HOLDERS + 2 * p)).is_empty() {
-                bare = true;
-                break 'walk;
-            }
-            asked = asked.remove(p);
-        }
-        rest = rest.remove(u);
-    }
-    !bare
+    let others = load(rec, STANDING).difference(without);
+    users
+        .items()
+        .all(|u| user_covered(rec, index, others, permissions, u))
 }

@@ -11,7 +11,7 @@ use lib.Dec.{eqb}
 use lib.ListN.{take, drop}
 use Rattle.sets.specs.Sets.{has, ◌∩◌, ◌∖◌, single}
 use Rattle.sets.proofs.Truth.{eqb_iff, So-not}
-use Rattle.sets.proofs.Items.{has-zero, empty_of}
+use Rattle.sets.proofs.Members.{has-zero, empty_of}
 use Rattle.sets.proofs.Counts.{ones-zero, ones_without}
 use Rattle.model.specs.Lists.{set_at}
 use Rattle.model.specs.Hierarchy.{Roles, direct_permissions, direct_members}

@@ -12,7 +12,7 @@ use lib.ListN.{take, drop}
 use Rattle.sets.specs.Truth.{◌and◌}
 use Rattle.sets.specs.Sets.{has, ◌∩◌, ◌∖◌, single}
 use Rattle.sets.proofs.Truth.{same_test, none_same}
-use Rattle.sets.proofs.Items.{same_set, item_below}
+use Rattle.sets.proofs.Members.{same_set, item_below}
 use Rattle.sets.proofs.Order.{collect_iff, collect_same, ∖-iff, ∖-lt, collect_lt}
 use Rattle.model.specs.Lists.{set_at}
 use Rattle.model.specs.Hierarchy.{Roles, candidate_count, permission_set, authorised_users, immediately_senior, immediate_juniors, direct_permissions, direct_members}

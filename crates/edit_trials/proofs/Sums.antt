@@ -9,7 +9,7 @@ use lib.Count.{ones}
 use Rattle.sets.specs.Truth.{total, when◌then◌else◌}
 use Rattle.sets.specs.Sets.{has, ◌∖◌, single}
 use Rattle.sets.proofs.Truth.{by_test, same_test, So-not, not-So, either, equal_or, total_same, when-true, when-false}
-use Rattle.sets.proofs.Items.{has-zero, has_above, item_below, item_of, empty_of}
+use Rattle.sets.proofs.Members.{has-zero, has_above, item_below, item_of, empty_of}
 use Rattle.sets.proofs.Order.{∖-iff, ∖-lt, single_iff}
 use Rattle.sets.proofs.Counts.{total-suc, total_add, total-≤, total-zero, total_except, ones_none, ones-zero, ones_without}
 use Rattle.edit_trials.specs.Trying.{over}

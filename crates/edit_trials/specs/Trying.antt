@@ -3,7 +3,7 @@
 use Rattle.std.specs.Prelude.{◌≡◌, false, List, ℕ, ◌+◌, ◌*◌, ◌≤◌, ◌<◌, take, drop}
 use Rattle.std.specs.Int.Count.{ones}
 use Rattle.sets.specs.Truth.{total, when◌then◌else◌}
-use Rattle.sets_128.specs.Held.{set128}
+use Rattle.sets.specs.Held.{set_of}
 use Rattle.sets.specs.Sets.{has, ◌∩◌, ◌∖◌, single}
 use Rattle.model.specs.Lists.{set_at}
 use Rattle.model.specs.Hierarchy.{Roles, candidate_count, immediate_juniors, direct_permissions, direct_members}
@@ -98,7 +98,7 @@ pub record Restorable (st : State) (ws index : List ℕ) (k : ℕ) : Type 0 wher
 -- a trial of role k: the counts of the building of `after`, and its neighbours in the building of `with`, in which it stands
 pub record Tried (ρ : Roles) (with after k : ℕ) (r : Trial) : Type 0 where
   pub counts : counts_in r.counts ≡ model.counts ρ after
-  pub neighbours : Neighbours ρ with k (set128 r.above) (set128 r.below)
+  pub neighbours : Neighbours ρ with k (set_of r.above) (set_of r.below)
 
 -- ---- a run
 

@@ -1,18 +1,16 @@
 // Counts of one role, and counts corrected.
 ghost use Rattle.std.specs.Prelude.{◌≡◌};
-ghost use Rattle.sets_128.specs.Held.{set128};
-ghost use Rattle.sets_256.specs.Held.{set256};
+ghost use Rattle.sets.specs.Held.{set_of};
 ghost use Rattle.quality.specs.Numbers.{counts_in, Few};
 ghost use Rattle.edit_trials.specs.Trying.{role_counts, Within, Corrected};
 
 use quality::Counts;
-use sets_128::Set128;
-use sets_256::Set256;
+use sets::{Set128, Set256};
 
 // A role with this row: itself, its direct members and permissions, and a link to each junior and from each senior.
 pub fn role_counts(members: Set128, permissions: Set256, above: Set128, below: Set128) -> Counts
     ensures few { Few result }
-    ensures result_value { counts_in result ≡ role_counts (set128 members) (set256 permissions) (set128 above) (set128 below) }
+    ensures result_value { counts_in result ≡ role_counts (set_of members) (set_of permissions) (set_of above) (set_of below) }
 {
     let links = below.count() + above.count();
     Counts {

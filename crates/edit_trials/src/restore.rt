@@ -1,6 +1,6 @@
 // A restoration weighed without writing it: the counts that the record would have.
 ghost use Rattle.std.specs.Prelude.{◌≡◌, ◌^◌, ◌<◌, length, take, drop};
-ghost use Rattle.sets_128.specs.Held.{set128};
+ghost use Rattle.sets.specs.Held.{set_of};
 ghost use Rattle.sets.specs.Sets.{◌∪◌, single};
 ghost use Rattle.model.specs.Hierarchy.{Roles, candidate_count, permission_set};
 ghost use Rattle.model.specs.Record.{record_length, sets_start, state_of};
@@ -18,8 +18,8 @@ use crate::trial::Trial;
 use hierarchy::{juniors_of, members_of, permissions_of, seniors_of};
 use indexes::{HOLDERS, LOWER, ROLES, USERS};
 use quality::Counts;
-use sets_128::Set128;
-use tables::{PERMISSIONS, SETS, STANDING, load128};
+use sets::Set128;
+use tables::{PERMISSIONS, SETS, STANDING, load};
 
 // What k would bring: its row, and a link from each senior.
 fn gained(
@@ -34,7 +34,7 @@ fn gained(
     requires index_len { length index.now ≡ index_length }
     requires k_bound { k < 128 }
     ensures few { Few result }
-    ensures result_value { (ρ : Roles) → Numbered ρ → Narrow ρ → HoldsSets 4 (candidate_count ρ) (permission_set ρ) (take table256_length (drop sets_start rec.now)) → RoleUsers ρ index.now → set128 standing < 2 ^ candidate_count ρ → Neighbours ρ (set128 standing) k (set128 above) (set128 below) → counts_in result ≡ counted_in ρ (set128 standing) k }
+    ensures result_value { (ρ : Roles) → Numbered ρ → Narrow ρ → HoldsSets 4 (candidate_count ρ) (permission_set ρ) (take table256_length (drop sets_start rec.now)) → RoleUsers ρ index.now → set_of standing < 2 ^ candidate_count ρ → Neighbours ρ (set_of standing) k (set_of above) (set_of below) → counts_in result ≡ counted_in ρ (set_of standing) k }
 {
     let members = members_of(&index[USERS..HOLDERS], above, standing, k);
     let permissions = permissions_of(&rec[SETS..PERMISSIONS], below, standing, k);
@@ -50,7 +50,7 @@ pub fn if_restored(rec: &[u64], index: &[u64], q: Counts, k: usize) -> Trial
     requires index_len { length index.now ≡ index_length }
     ensures { Tried (roles_of (state_of rec.now)) ((state_of rec.now).standing ∪ single k) ((state_of rec.now).standing ∪ single k) k result }
 {
-    let standing = load128(rec, STANDING).insert(k);
+    let standing = load(rec, STANDING).insert(k);
     let above = seniors_of(&index[LOWER..ROLES], standing, k);
     let below = juniors_of(&index[LOWER..ROLES], standing, k);
     let given = lost(rec, index, k, above, below);

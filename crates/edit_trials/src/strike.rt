@@ -13,7 +13,7 @@ use crate::count::{corrected, role_counts};
 use crate::taken::taken;
 use crate::trial::Trial;
 use quality::Counts;
-use tables::{JUNIORS, MEMBERS, PERMISSIONS, load128, load256};
+use tables::{JUNIORS, MEMBERS, PERMISSIONS, load};
 
 // What taking the standing role k out would do to the counts q. Its row goes, and its neighbours take over what no other neighbour of theirs has.
 pub fn if_struck(rec: &[u64], index: &[u64], seniors: &[u64], q: Counts, k: usize) -> Trial
@@ -26,10 +26,10 @@ pub fn if_struck(rec: &[u64], index: &[u64], seniors: &[u64], q: Counts, k: usiz
     requires seniors_len { length seniors.now ≡ table128_length }
     ensures { Tried (roles_of (state_of rec.now)) (state_of rec.now).standing ((state_of rec.now).standing ∖ single k) k result }
 {
-    let above = load128(seniors, 2 * k);
-    let below = load128(rec, JUNIORS + 2 * k);
-    let members = load128(rec, MEMBERS + 2 * k);
-    let permissions = load256(rec, PERMISSIONS + 4 * k);
+    let above = load(seniors, 2 * k);
+    let below = load(rec, JUNIORS + 2 * k);
+    let members = load(rec, MEMBERS + 2 * k);
+    let permissions = load(rec, PERMISSIONS + 4 * k);
     let had = role_counts(members, permissions, above, below);
     let given = taken(rec, index, seniors, k, above, below);
     Trial {

@@ -1,5 +1,5 @@
 use quality::Counts;
-use sets_128::Set128;
+use sets::Set128;
 
 // The counts that the record would have with a role taken out or put back, and the role's immediate seniors and juniors where it stands.
 #[derive(Clone, Copy)]

@@ -10,10 +10,10 @@ use native.Mathlib.Numerals.{add-one}
 use native.Mathlib.Omega.{arith}
 use lib.Dec.{ltb}
 use Rattle.sets.specs.Truth.{isnt, when◌then◌else◌}
-use Rattle.sets_128.specs.Held.{set128}
+use Rattle.sets.specs.Held.{set_of}
 use Rattle.sets.specs.Sets.{has, ◌∖◌, single}
 use Rattle.sets.proofs.Truth.{So-not, not-So, isnt_iff, when-true, when-false}
-use Rattle.sets.proofs.Items.{item_below}
+use Rattle.sets.proofs.Members.{item_below}
 use Rattle.sets.proofs.Order.{∖-iff, single_iff}
 use Rattle.model.specs.Hierarchy.{Roles, direct_permissions}
 use Rattle.model.specs.Coverage.{strikable}
@@ -93,7 +93,7 @@ abbrev pub struck : Progress → Counts → ℕ → Progress
 struck g q x = record { counts = q; quality = x; changed = g.changed + 1; examined = g.examined + 1 }
 
 -- the run of a record and a turn, number by number
-held : (ws : List ℕ) (r : Turn) {R wl q x y : ℕ} → (state_of ws).standing ≡ R → set128 r.worklist ≡ wl → r.progress.quality ≡ q → r.progress.changed ≡ x
+held : (ws : List ℕ) (r : Turn) {R wl q x y : ℕ} → (state_of ws).standing ≡ R → set_of r.worklist ≡ wl → r.progress.quality ≡ q → r.progress.changed ≡ x
     → r.progress.examined ≡ y → run_in ws r ≡ record { standing = R; worklist = wl; reference = q; changed = x; examined = y }
 unfolding run_in run_at
 held ws r e_r el eq ex ey = λ i. record { standing = e_r i; worklist = el i; reference = eq i; changed = ex i; examined = ey i }
@@ -145,7 +145,7 @@ module _ (ws index seniors : List ℕ) (terms : Terms) (turn : Turn) (k : ℕ) (
         (λ p h. u.holders p (item_below ρ.permissions (direct_permissions ρ R k) p (direct_permissions_lt ρ R k) h)) stands
 
     -- the role is not strikable
-    pub turn_dropped : t ≡ false → (r : Turn) → r.progress ≡ unstruck turn.progress → set128 r.worklist ≡ set128 turn.worklist ∖ single k
+    pub turn_dropped : t ≡ false → (r : Turn) → r.progress ≡ unstruck turn.progress → set_of r.worklist ≡ set_of turn.worklist ∖ single k
         → RunReached (state_of ws) ws index seniors r next
     unfolding run_in run_at take_up_by take_up after_drop
     turn_dropped f r e el =
@@ -168,7 +168,7 @@ module _ (ws index seniors : List ℕ) (terms : Terms) (turn : Turn) (k : ℕ) (
           when-false (isnt (strikable ρ R k)) _ _ (not-So (isnt (strikable ρ R k)) (λ h. (isnt_iff (strikable ρ R k)).0 h (sym asked ∙ able)))
           ∙ rw (el, sym quality_then) refl
 
-      pub turn_stayed : less ≡ false → (r : Turn) → r.progress ≡ unstruck turn.progress → set128 r.worklist ≡ set128 turn.worklist
+      pub turn_stayed : less ≡ false → (r : Turn) → r.progress ≡ unstruck turn.progress → set_of r.worklist ≡ set_of turn.worklist
           → RunReached (state_of ws) ws index seniors r next
       unfolding run_in run_at after_stay
       turn_stayed f r e ew =
@@ -177,7 +177,7 @@ module _ (ws index seniors : List ℕ) (terms : Terms) (turn : Turn) (k : ℕ) (
           (held ws r refl ew (λ i. (e i).quality) (λ i. (e i).changed) examined ∙ sym (decided ∙ when-false less _ _ f))
 
       pub turn_struck : So less → q ≤ most_quality → (after seniors' : List ℕ) → Ready (standing_now (state_of ws) ((state_of ws).standing ∖ single k)) after index seniors' → (r : Turn)
-          → r.progress ≡ struck turn.progress trial.counts q → set128 r.worklist ≡ set128 turn.worklist ∖ single k
+          → r.progress ≡ struck turn.progress trial.counts q → set_of r.worklist ≡ set_of turn.worklist ∖ single k
           → RunReached (state_of ws) after index seniors' r next
       unfolding run_in run_at after_strike
       turn_struck within small after seniors' made r e ew =

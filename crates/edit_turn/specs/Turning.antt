@@ -2,7 +2,7 @@
 -- Assumes nothing.
 use Rattle.std.specs.Prelude.{◌≡◌, List, ℕ, ◌≤◌}
 use Rattle.std.proofs.Math.Bool.{So}
-use Rattle.sets_128.specs.Held.{set128}
+use Rattle.sets.specs.Held.{set_of}
 use Rattle.sets.specs.Sets.{has}
 use Rattle.model.specs.Hierarchy.{Roles}
 use Rattle.model.specs.Machine.{Run, take_up}
@@ -30,7 +30,7 @@ take_up_by ρ t = take_up ρ (weights_in t.weights) (tolerance_in t.tolerance)
 
 -- the machine's run that a record and a turn hold
 unfoldable pub run_in : List ℕ → Turn → Run
-run_in ws turn = run_at ws turn.progress (set128 turn.worklist)
+run_in ws turn = run_at ws turn.progress (set_of turn.worklist)
 
 -- every item of s stands
 abbrev pub Stand : ℕ → ℕ → Type 0
@@ -40,7 +40,7 @@ Stand s R = (i : ℕ) → So (has s i) → So (has R i)
 pub record Underway (ws index seniors : List ℕ) (turn : Turn) : Type 0 where
   pub in_step : InStep ws index seniors turn.progress
   pub holders : AllHolders (roles_of (state_of ws)) index
-  pub listed : Stand (set128 turn.worklist) (state_of ws).standing
+  pub listed : Stand (set_of turn.worklist) (state_of ws).standing
   pub fewer : turn.progress.changed ≤ turn.progress.examined
   pub quality_small : turn.progress.quality ≤ most_quality
 

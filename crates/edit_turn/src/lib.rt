@@ -16,7 +16,7 @@ use edit_rows::take_out_at;
 use edit_test::removable;
 use edit_trials::{Progress, if_struck};
 use quality::{Tolerance, Weights, weigh};
-use sets_128::Set128;
+use sets::Set128;
 
 // The weights and the tolerance of an elimination.
 #[derive(Clone, Copy)]

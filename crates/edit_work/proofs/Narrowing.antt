@@ -11,7 +11,7 @@ use lib.Dec.{ltb}
 use lib.ListN.{length}
 use Rattle.sets.specs.Sets.{has, ◌∩◌, ◌∖◌, subset, collect}
 use Rattle.sets.proofs.Truth.{by_test, So-not, equal_or, ltb_iff}
-use Rattle.sets.proofs.Items.{has-zero, same_set}
+use Rattle.sets.proofs.Members.{has-zero, same_set}
 use Rattle.sets.proofs.Order.{∩-iff, ∖-iff, subset_iff, subset_refl, collect_iff}
 use Rattle.model.specs.Hierarchy.{Roles, candidate_count, permission_set}
 use Rattle.model.specs.Indexes.{roles_of_user, down_from}

@@ -11,7 +11,7 @@ use lib.ListN.{length}
 use Rattle.sets.specs.Truth.{when◌then◌else◌}
 use Rattle.sets.specs.Sets.{has, ◌∪◌, single, collect}
 use Rattle.sets.proofs.Truth.{So-not, equal_or, ltb_iff, when-true}
-use Rattle.sets.proofs.Items.{has-zero, same_set}
+use Rattle.sets.proofs.Members.{has-zero, same_set}
 use Rattle.sets.proofs.Order.{∪-iff, single_iff, collect_iff}
 use Rattle.model.specs.Lists.{set_at}
 use Rattle.model.specs.Hierarchy.{Roles, candidate_count}

@@ -13,7 +13,7 @@ use lib.ListN.{length}
 use Rattle.sets.specs.Truth.{isnt}
 use Rattle.sets.specs.Sets.{has, ◌∪◌, ◌∖◌, single, subset}
 use Rattle.sets.proofs.Truth.{by_test, So-not, either, equal_or, isnt_iff, eqb_iff}
-use Rattle.sets.proofs.Items.{has-zero, same_set, item_of, item_below}
+use Rattle.sets.proofs.Members.{has-zero, same_set, item_of, item_below}
 use Rattle.sets.proofs.Order.{∪-iff, ∖-iff, ∪-lt, single_iff, subset_iff, collect_iff, disjoint_iff}
 use Rattle.sets.proofs.Counts.{ones_disjoint, ones_without, ones_some}
 use Rattle.model.specs.Lists.{set_at}

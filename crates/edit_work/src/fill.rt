@@ -14,17 +14,15 @@ use crate::layout::{DOWN, FIRST, SAMPLES};
 use crate::samples::find_samples;
 use columns::fill_columns;
 use indexes::{HOLDERS, INDEX_LENGTH, LOWER, ROLES};
-use tables::{copy, load128, store128};
+use tables::{copy, load, store};
 
 // Each role with those below it.
 fn fill_down(low: &[u64], c: usize, down: &mut [u64])
     requires { (length low.now ≡ table128_length) × (length down.old ≡ table128_length) × (c ≤ 128) }
     ensures { Filled 2 c (λ k. set_at 2 low.now (2 * k) ∪ single k) down.old down.new }
 {
-    let mut k = 0;
-    while k < c {
-        store128(down, 2 * k, load128(low, 2 * k).insert(k));
-        k += 1;
+    for k in 0..c {
+        store(down, 2 * k, load::<2>(low, 2 * k).insert(k));
     }
 }
 
@@ -75,5 +73,5 @@ pub fn fill_order(index: &[u64], m: usize, c: usize, work: &mut [u64])
     fill_reach(index, c, work);
     let count = fill_samples(index, c, work);
     fill_further(work, count);
-    store128(work, FIRST, first_holders(&index[HOLDERS..INDEX_LENGTH], m));
+    store(work, FIRST, first_holders(&index[HOLDERS..INDEX_LENGTH], m));
 }

@@ -1,7 +1,7 @@
 // Sample users, one for each set of roles that users have: whoever has the same roles gives the same numbers to the redundancies.
 ghost use Rattle.std.specs.Prelude.{◌≡◌, ℕ, ◌+◌, ◌*◌, ◌≤◌, ◌<◌, length};
 ghost use Rattle.std.specs.Int.Count.{ones};
-ghost use Rattle.sets_128.specs.Held.{set128};
+ghost use Rattle.sets.specs.Held.{set_of};
 ghost use Rattle.sets.specs.Sets.{◌∪◌, single};
 ghost use Rattle.model.specs.Hierarchy.{Roles, candidate_count};
 ghost use Rattle.model.specs.Indexes.{roles_of_user};
@@ -9,39 +9,33 @@ ghost use Rattle.indexes.specs.Index.{index_length, roles_start, Indexed};
 ghost use Rattle.edit_work.specs.Work.{entries, entry, users_with_roles, SamplesOf};
 ghost use Rattle.tables.specs.Tables.{table128_length};
 
-use hierarchy::lowest_item;
 use indexes::{ROLES, USERS};
-use sets_128::Set128;
-use tables::{load128, store128};
+use sets::Set128;
+use tables::{load, store};
 
 // Puts the roles s of one more user after the first `count` sets of the table, unless the last of them is the same. Answers how many there are then.
 fn add_sample(table: &mut [u64], count: usize, s: Set128) -> usize
     requires table_len { length table.old ≡ table128_length }
     requires count_bound { count < 128 }
     ensures upper_bound { result ≤ count + 1 }
-    ensures by_index { (users u : ℕ) (roles : ℕ → ℕ) → SamplesOf users roles count (entries table.old) → set128 s ≡ roles u → SamplesOf (users ∪ single u) roles result (entries table.new) }
+    ensures by_index { (users u : ℕ) (roles : ℕ → ℕ) → SamplesOf users roles count (entries table.old) → set_of s ≡ roles u → SamplesOf (users ∪ single u) roles result (entries table.new) }
 {
-    if 0 < count {
-        if load128(table, 2 * count - 2).equals(s) {
-            return count;
-        }
+    if 0 < count && load(table, 2 * count - 2) == s {
+        return count;
     }
-    store128(table, 2 * count, s);
+    store(table, 2 * count, s);
     count + 1
 }
 
 // The samples of these users, after those that are there.
 fn add_samples(index: &[u64], users: Set128, table: &mut [u64], count: usize) -> usize
-    requires { (length index.now ≡ index_length) × (length table.old ≡ table128_length) × (count + ones (set128 users) ≤ 128) }
-    ensures upper_bound { result ≤ count + ones (set128 users) }
-    ensures by_index { (met : ℕ) → SamplesOf met (entry index.now roles_start) count (entries table.old) → SamplesOf (met ∪ set128 users) (entry index.now roles_start) result (entries table.new) }
+    requires { (length index.now ≡ index_length) × (length table.old ≡ table128_length) × (count + ones (set_of users) ≤ 128) }
+    ensures upper_bound { result ≤ count + ones (set_of users) }
+    ensures by_index { (met : ℕ) → SamplesOf met (entry index.now roles_start) count (entries table.old) → SamplesOf (met ∪ set_of users) (entry index.now roles_start) result (entries table.new) }
 {
     let mut found = count;
-    let mut rest = users;
-    while !rest.is_empty() {
-        let u = lowest_item(rest);
-        found = add_sample(table, found, load128(index, ROLES + 2 * u));
-        rest = rest.remove(u);
+    for u in users.items() {
+        found = add_sample(table, found, load(index, ROLES + 2 * u));
     }
     found
 }
@@ -55,10 +49,8 @@ pub fn find_samples(index: &[u64], c: usize, table: &mut [u64]) -> usize
 {
     let mut count = 0;
     let mut met = Set128::empty();
-    let mut k = c;
-    while 0 < k {
-        k -= 1;
-        let users = load128(index, USERS + 2 * k).difference(met);
+    for k in (0..c).rev() {
+        let users = load(index, USERS + 2 * k).difference(met);
         count = add_samples(index, users, table, count);
         met = met.union(users);
     }

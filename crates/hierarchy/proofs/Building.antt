@@ -9,7 +9,7 @@ use native.Mathlib.Nat.{lt_of_lt_of_le}
 use borrow.Author.Tests.{not-true, not-false}
 use Rattle.sets.specs.Sets.{has, ◌∩◌}
 use Rattle.sets.proofs.Truth.{So-not}
-use Rattle.sets.proofs.Items.{same_set, item_below}
+use Rattle.sets.proofs.Members.{same_set, item_below}
 use Rattle.sets.proofs.Order.{collect_iff, ∩-lt}
 use Rattle.model.specs.Lists.{set_at}
 use Rattle.model.specs.Hierarchy.{Roles, candidate_count, permission_set, authorised_users, immediate_juniors, direct_permissions, direct_members}

@@ -10,7 +10,7 @@ use lib.Dec.{eqb, ltb}
 use Rattle.sets.specs.Truth.{◌and◌, when◌then◌else◌}
 use Rattle.sets.specs.Sets.{has, ◌∩◌, ◌∪◌, ◌∖◌, single, collect}
 use Rattle.sets.proofs.Truth.{by_test, So-not, and_iff, eqb_iff, ltb_iff, when-true, when-false, equal_or}
-use Rattle.sets.proofs.Items.{same_set, has-zero, item_of, empty_of}
+use Rattle.sets.proofs.Members.{same_set, has-zero, item_of, empty_of}
 use Rattle.sets.proofs.Order.{collect_iff, ∩-iff, ∪-iff, ∖-iff, single_iff, proper_trans}
 use Rattle.model.specs.Lists.{set_at}
 use Rattle.model.specs.Hierarchy.{Roles, candidate_count, permission_set, senior, immediate_juniors}

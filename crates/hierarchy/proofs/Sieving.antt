@@ -12,7 +12,7 @@ use borrow.Author.Tests.{not-true, not-false}
 use Rattle.sets.specs.Truth.{◌and◌, none, when◌then◌else◌}
 use Rattle.sets.specs.Sets.{has, ◌∪◌, ◌∖◌, single}
 use Rattle.sets.proofs.Truth.{So-not, and_iff, none_of, none_is, equal_or, eqb_iff, ltb_iff, when-true}
-use Rattle.sets.proofs.Items.{has-zero, item_below, same_set, empty_of}
+use Rattle.sets.proofs.Members.{has-zero, item_below, same_set, empty_of}
 use Rattle.sets.proofs.Order.{collect_iff, ∖-iff, ∖-lt, ∪-iff, single_iff, zero-∪, ∪-zero, subset_iff}
 use Rattle.sets.proofs.Counts.{ones_without, ones-subset}
 use Rattle.model.specs.Lists.{set_at}

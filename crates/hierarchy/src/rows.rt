@@ -1,49 +1,47 @@
 // The row of one role: immediate juniors, direct permissions, direct members. A role that does not stand has an empty row.
 ghost use Rattle.std.specs.Prelude.{◌≡◌, ◌*◌, ◌^◌, ◌<◌, length};
-ghost use Rattle.sets_128.specs.Held.{set128};
-ghost use Rattle.sets_256.specs.Held.{set256};
+ghost use Rattle.sets.specs.Held.{set_of};
 ghost use Rattle.model.specs.Hierarchy.{Roles, candidate_count, permission_set, authorised_users, immediate_juniors, direct_permissions, direct_members};
 ghost use Rattle.model.specs.Indexes.{lower};
 ghost use Rattle.tables.specs.Tables.{HoldsSets, table128_length, table256_length};
 ghost use Rattle.hierarchy.specs.Tables.{Numbered, Narrow, immediate_seniors};
 
-use crate::sieve::{less128, less256, maximal_of};
-use sets_128::Set128;
-use sets_256::Set256;
-use tables::{load128, load256};
+use crate::sieve::{less, maximal_of};
+use sets::{Set128, Set256};
+use tables::load;
 
 // Of the standing roles below k, those that lie below no other.
 pub fn juniors_of(index: &[u64], standing: Set128, k: usize) -> Set128
     requires index_len { length index.now ≡ table128_length }
     requires k_bound { k < 128 }
-    ensures { (ρ : Roles) → Numbered ρ → HoldsSets 2 (candidate_count ρ) (lower ρ) index.now → set128 standing < 2 ^ candidate_count ρ → set128 result ≡ immediate_juniors ρ (set128 standing) k }
+    ensures { (ρ : Roles) → Numbered ρ → HoldsSets 2 (candidate_count ρ) (lower ρ) index.now → set_of standing < 2 ^ candidate_count ρ → set_of result ≡ immediate_juniors ρ (set_of standing) k }
 {
     if !standing.contains(k) {
         return Set128::empty();
     }
-    maximal_of(index, load128(index, 2 * k).intersection(standing))
+    maximal_of(index, load(index, 2 * k).intersection(standing))
 }
 
 // The set of k less those of its immediate juniors.
 pub fn permissions_of(table: &[u64], juniors: Set128, standing: Set128, k: usize) -> Set256
     requires table_len { length table.now ≡ table256_length }
     requires k_bound { k < 128 }
-    ensures { (ρ : Roles) → Numbered ρ → Narrow ρ → HoldsSets 4 (candidate_count ρ) (permission_set ρ) table.now → set128 standing < 2 ^ candidate_count ρ → set128 juniors ≡ immediate_juniors ρ (set128 standing) k → set256 result ≡ direct_permissions ρ (set128 standing) k }
+    ensures { (ρ : Roles) → Numbered ρ → Narrow ρ → HoldsSets 4 (candidate_count ρ) (permission_set ρ) table.now → set_of standing < 2 ^ candidate_count ρ → set_of juniors ≡ immediate_juniors ρ (set_of standing) k → set_of result ≡ direct_permissions ρ (set_of standing) k }
 {
     if !standing.contains(k) {
         return Set256::empty();
     }
-    less256(table, load256(table, 4 * k), juniors)
+    less(table, load(table, 4 * k), juniors)
 }
 
 // The users of k less those of its immediate seniors.
 pub fn members_of(users: &[u64], seniors: Set128, standing: Set128, k: usize) -> Set128
     requires users_len { length users.now ≡ table128_length }
     requires k_bound { k < 128 }
-    ensures { (ρ : Roles) → Numbered ρ → Narrow ρ → HoldsSets 2 (candidate_count ρ) (authorised_users ρ) users.now → set128 standing < 2 ^ candidate_count ρ → set128 seniors ≡ immediate_seniors ρ (set128 standing) k → set128 result ≡ direct_members ρ (set128 standing) k }
+    ensures { (ρ : Roles) → Numbered ρ → Narrow ρ → HoldsSets 2 (candidate_count ρ) (authorised_users ρ) users.now → set_of standing < 2 ^ candidate_count ρ → set_of seniors ≡ immediate_seniors ρ (set_of standing) k → set_of result ≡ direct_members ρ (set_of standing) k }
 {
     if !standing.contains(k) {
         return Set128::empty();
     }
-    less128(users, load128(users, 2 * k), seniors)
+    less(users, load(users, 2 * k), seniors)
 }

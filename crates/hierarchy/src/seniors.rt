@@ -1,6 +1,6 @@
 // The immediate seniors of a role, found from the index where the record does not hold them yet.
 ghost use Rattle.std.specs.Prelude.{◌≡◌, ◌^◌, ◌<◌, eqb, length};
-ghost use Rattle.sets_128.specs.Held.{set128};
+ghost use Rattle.sets.specs.Held.{set_of};
 ghost use Rattle.sets.specs.Sets.{has, ◌∩◌, ◌∪◌, single};
 ghost use Rattle.sets.specs.Truth.{◌and◌, when◌then◌else◌};
 ghost use Rattle.model.specs.Hierarchy.{Roles, candidate_count};
@@ -8,14 +8,13 @@ ghost use Rattle.model.specs.Indexes.{lower};
 ghost use Rattle.tables.specs.Tables.{HoldsSets, table128_length};
 ghost use Rattle.hierarchy.specs.Tables.{Numbered, immediate_seniors};
 
-use crate::items::lowest_item;
-use sets_128::Set128;
-use tables::load128;
+use sets::Set128;
+use tables::load;
 
 // The set with i in it where k is below i, and none of the set is.
 fn with_senior(found: Set128, i: usize, below: Set128, k: usize) -> Set128
     requires { i < 128 }
-    ensures { set128 result ≡ (when has (set128 below) k and eqb (set128 below ∩ set128 found) 0 then set128 found ∪ single i else set128 found) }
+    ensures { set_of result ≡ (when has (set_of below) k and eqb (set_of below ∩ set_of found) 0 then set_of found ∪ single i else set_of found) }
 {
     if below.contains(k) & below.intersection(found).is_empty() {
         return found.insert(i);
@@ -27,17 +26,14 @@ fn with_senior(found: Set128, i: usize, below: Set128, k: usize) -> Set128
 // has only to be held against those that were found before it.
 pub fn seniors_of(low: &[u64], standing: Set128, k: usize) -> Set128
     requires { length low.now ≡ table128_length }
-    ensures { (ρ : Roles) → Numbered ρ → HoldsSets 2 (candidate_count ρ) (lower ρ) low.now → set128 standing < 2 ^ candidate_count ρ → set128 result ≡ immediate_seniors ρ (set128 standing) k }
+    ensures { (ρ : Roles) → Numbered ρ → HoldsSets 2 (candidate_count ρ) (lower ρ) low.now → set_of standing < 2 ^ candidate_count ρ → set_of result ≡ immediate_seniors ρ (set_of standing) k }
 {
     if !standing.contains(k) {
         return Set128::empty();
     }
     let mut found = Set128::empty();
-    let mut rest = standing.difference(Set128::below(k));
-    while !rest.is_empty() {
-        let i = lowest_item(rest);
-        found = with_senior(found, i, load128(low, 2 * i), k);
-        rest = rest.remove(i);
+    for i in standing.difference(Set128::below(k)).items() {
+        found = with_senior(found, i, load(low, 2 * i), k);
     }
     found
 }

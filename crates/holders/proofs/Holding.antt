@@ -8,7 +8,7 @@ use lib.ListN.{length, get_or, take, drop, length-take, length-drop}
 use lib.Seq.{ext_get_or, get_or-take, get_or-drop}
 use Rattle.sets.specs.Sets.{has, collect}
 use Rattle.sets.proofs.Truth.{So-not}
-use Rattle.sets.proofs.Items.{has-zero, item_below}
+use Rattle.sets.proofs.Members.{has-zero, item_below}
 use Rattle.sets.proofs.Order.{collect_same}
 use Rattle.model.specs.Lists.{set_at}
 use Rattle.model.specs.Hierarchy.{Roles, candidate_count, permission_set}

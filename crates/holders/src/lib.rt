@@ -4,7 +4,7 @@
 ghost use Rattle.std.specs.Prelude.{◌≡◌, ◌≢◌, ◌*◌, ◌≤◌, ◌<◌, length, get_or};
 ghost use Rattle.std.proofs.Math.Bool.{So};
 ghost use Rattle.sets.specs.Extremes.{LowestItem};
-ghost use Rattle.sets_256.specs.Held.{set256};
+ghost use Rattle.sets.specs.Held.{set_of};
 ghost use Rattle.sets.specs.Sets.{has, collect};
 ghost use Rattle.model.specs.Lists.{set_at};
 ghost use Rattle.model.specs.Hierarchy.{Roles};
@@ -15,27 +15,15 @@ ghost use Rattle.holders.specs.Holding.{HoldsFor};
 
 use columns::{column_of, fill_columns_of};
 use indexes::{HOLDERS, INDEX_LENGTH};
-use sets::Item;
-use sets_256::Set256;
-use tables::{PERMISSIONS, SETS, store128};
-
-// The lowest item of a set of permissions that has one.
-pub fn lowest_permission(s: Set256) -> usize
-    requires { set256 s ≢ 0 }
-    ensures { LowestItem 256 (set256 s) result }
-{
-    let Item::At(p) = s.lowest() else {
-        return 0;
-    };
-    p
-}
+use sets::Set256;
+use tables::{PERMISSIONS, SETS, store};
 
 // The holders of each of these permissions, in their region of the index. The other regions are left.
 pub fn fill_holders(rec: &[u64], index: &mut [u64], permissions: Set256)
     requires rec_len { length rec.now ≡ record_length }
     requires index_len { length index.old ≡ index_length }
     requires rec_bound { get_or rec.now 2 0 ≤ 128 }
-    ensures holders_for { (st : State) → Limits st → rec.now ≡ built st → HoldersFor (roles_of st) (set256 permissions) index.new }
+    ensures holders_for { (st : State) → Limits st → rec.now ≡ built st → HoldersFor (roles_of st) (set_of permissions) index.new }
     ensures indexed { (ρ : Roles) → Indexed ρ index.old → Indexed ρ index.new }
 {
     let c = rec[2] as usize;
@@ -53,7 +41,7 @@ fn fill_columns_for(table: &[u64], c: usize, permissions: Set256, out: &mut [u64
     requires c_bound { c ≤ 128 }
     requires c_in_bounds { 4 * c ≤ length table.now }
     requires out_len { length out.old ≡ holders_length }
-    ensures { HoldsFor (set256 permissions) (λ p. collect c (λ k. has (set_at 4 table.now (4 * k)) p)) out.new }
+    ensures { HoldsFor (set_of permissions) (λ p. collect c (λ k. has (set_at 4 table.now (4 * k)) p)) out.new }
 {
     if permissions.count() < 24 {
         fill_few_columns_for(table, c, permissions, out);
@@ -66,12 +54,9 @@ fn fill_few_columns_for(table: &[u64], c: usize, permissions: Set256, out: &mut 
     requires c_bound { c ≤ 128 }
     requires c_in_bounds { 4 * c ≤ length table.now }
     requires out_len { length out.old ≡ holders_length }
-    ensures { HoldsFor (set256 permissions) (λ p. collect c (λ k. has (set_at 4 table.now (4 * k)) p)) out.new }
+    ensures { HoldsFor (set_of permissions) (λ p. collect c (λ k. has (set_at 4 table.now (4 * k)) p)) out.new }
 {
-    let mut rest = permissions;
-    while !rest.is_empty() {
-        let p = lowest_permission(rest);
-        store128(out, 2 * p, column_of(table, 4, c, p));
-        rest = rest.remove(p);
+    for p in permissions.items() {
+        store(out, 2 * p, column_of(table, 4, c, p));
     }
 }

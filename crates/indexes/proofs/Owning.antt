@@ -13,7 +13,7 @@ use lib.ListN.{length, get_or}
 use Rattle.sets.specs.Truth.{when◌then◌else◌, ◌implies◌, all}
 use Rattle.sets.specs.Sets.{has, ◌∩◌, ◌∪◌, ◌∖◌, single, subset, collect}
 use Rattle.sets.proofs.Truth.{by_test, So-not, implies_iff, all_iff, below_suc, equal_or, ltb_iff, when-true}
-use Rattle.sets.proofs.Items.{same_set, has-zero, empty_of}
+use Rattle.sets.proofs.Members.{same_set, has-zero, empty_of}
 use Rattle.sets.proofs.Order.{collect_iff, ∩-iff, ∪-iff, ∖-iff, single_iff, subset_iff, proper_iff}
 use Rattle.model.specs.Lists.{set_at}
 use Rattle.model.specs.Hierarchy.{candidate_count, permission_set, authorised_users}

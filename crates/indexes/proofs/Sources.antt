@@ -13,7 +13,7 @@ use lib.ListN.{length, get_or}
 use Rattle.sets.specs.Truth.{when◌then◌else◌}
 use Rattle.sets.specs.Sets.{has, ◌∪◌, single, subset, collect}
 use Rattle.sets.proofs.Truth.{either, ltb_iff, when-true}
-use Rattle.sets.proofs.Items.{same_set}
+use Rattle.sets.proofs.Members.{same_set}
 use Rattle.sets.proofs.Order.{collect_iff, proper_iff}
 use Rattle.sets.proofs.Words.{word-zero}
 use Rattle.model.specs.Lists.{set_at, rows_at}

@@ -1,7 +1,7 @@
 // Which roles lie below a role that is nobody's row. It is the intersection of the rows that contain it, so they are those that the users of these
 // rows share.
 ghost use Rattle.std.specs.Prelude.{◌≡◌, ◌≤◌, length};
-ghost use Rattle.sets_128.specs.Held.{set128};
+ghost use Rattle.sets.specs.Held.{set_of};
 ghost use Rattle.model.specs.Hierarchy.{candidate_count, authorised_users};
 ghost use Rattle.model.specs.Indexes.{lower, roles_of_user};
 ghost use Rattle.model.specs.State.{State, roles_of};
@@ -10,21 +10,17 @@ ghost use Rattle.tables.specs.Tables.{HoldsSets, table128_length};
 ghost use Rattle.indexes.specs.Tables.{Owned, shared_by};
 
 use crate::own::Own;
-use hierarchy::lowest_item;
-use sets_128::Set128;
-use tables::{load128, store128};
+use sets::Set128;
+use tables::{load, store};
 
 // The roles that all of these users have.
 fn shared(roles: &[u64], users: Set128) -> Set128
     requires { length roles.now ≡ table128_length }
-    ensures { set128 result ≡ shared_by roles.now (set128 users) }
+    ensures { set_of result ≡ shared_by roles.now (set_of users) }
 {
     let mut left = Set128::below(128);
-    let mut rest = users;
-    while !rest.is_empty() {
-        let u = lowest_item(rest);
-        left = left.intersection(load128(roles, 2 * u));
-        rest = rest.remove(u);
+    for u in users.items() {
+        left = left.intersection(load(roles, 2 * u));
     }
     left
 }
@@ -32,15 +28,12 @@ fn shared(roles: &[u64], users: Set128) -> Set128
 // The entries of the roles that are nobody's row. One user for each row is asked.
 pub fn fill_shared(roles: &[u64], users: &[u64], own: Own, c: usize, low: &mut [u64])
     requires { (length roles.now ≡ table128_length) × (length users.now ≡ table128_length) × (length low.old ≡ table128_length) × (c ≤ 128) }
-    ensures { (st : State) → Limits st → candidate_count (roles_of st) ≡ c → HoldsSets 2 st.users (roles_of_user (roles_of st)) roles.now → HoldsSets 2 c (authorised_users (roles_of st)) users.now → Owned st st.users low.old (set128 own.roles) (set128 own.users) → HoldsSets 2 c (lower (roles_of st)) low.new }
+    ensures { (st : State) → Limits st → candidate_count (roles_of st) ≡ c → HoldsSets 2 st.users (roles_of_user (roles_of st)) roles.now → HoldsSets 2 c (authorised_users (roles_of st)) users.now → Owned st st.users low.old (set_of own.roles) (set_of own.users) → HoldsSets 2 c (lower (roles_of st)) low.new }
 {
     let known = own.roles;
     let some = own.users;
-    let mut rest = Set128::below(c).difference(known);
-    while !rest.is_empty() {
-        let k = lowest_item(rest);
-        let asked = load128(users, 2 * k).intersection(some);
-        store128(low, 2 * k, shared(roles, asked).remove(k));
-        rest = rest.remove(k);
+    for k in Set128::below(c).difference(known).items() {
+        let asked = load(users, 2 * k).intersection(some);
+        store(low, 2 * k, shared(roles, asked).remove(k));
     }
 }

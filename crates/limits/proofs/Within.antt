@@ -1,16 +1,16 @@
 -- The limits, test by test.
 -- Assumes nothing.
 use mathlib.Core.Path.{◌≡◌, sym, ◌∙◌, ap, ap₂}
-use mathlib.Core.Bool.{Bool, false}
+use mathlib.Core.Bool.{Bool, true, false}
 use mathlib.Core.List.{List}
 use Prim.Native.Nat.{ℕ, ◌+◌, ◌*◌, ◌^◌, ◌≤◌, ◌<◌}
 use native.Mathlib.Omega.{arith}
-use lib.Dec.{leb, ltb}
+use lib.Dec.{ltb}
 use lib.ListN.{get_or}
 use Rattle.sets.specs.Truth.{all}
 use Rattle.sets.specs.Sets.{has, subset, collect}
-use Rattle.sets.proofs.Truth.{same_test, not-So, leb_iff, ltb_iff, all_same}
-use Rattle.sets.proofs.Items.{below_of_items, item_below}
+use Rattle.sets.proofs.Truth.{same_test, not-So, ltb_iff, all_same}
+use Rattle.sets.proofs.Members.{below_of_items, item_below}
 use Rattle.sets.proofs.Order.{collect_iff, subset_iff}
 use Rattle.model.specs.Lists.{set_at, rows_at}
 use Rattle.model.specs.State.{within_limits, rows_within}
@@ -29,9 +29,14 @@ many_users n m l = out_of n m (λ k. let a = k.1 in let z : ⊥ = omega arith in
 pub no_permissions : (n m : ℕ) → m < 1 → false ≡ within_limits n m
 no_permissions n m l = out_of n m (λ k. let a = k.2 in let z : ⊥ = omega arith in z)
 
-pub last_limit : (n m : ℕ) → 1 ≤ n → n ≤ 128 → 1 ≤ m → leb m 256 ≡ within_limits n m
-last_limit n m n1 n128 m1 =
-    same_test (leb m 256) (within_limits n m) (λ h. (within_limits_iff n m).1 (n1, n128, m1, (leb_iff m 256).0 h)) (λ h. (leb_iff m 256).1 ((within_limits_iff n m).0 h).3)
+pub many_permissions : (n m : ℕ) → 256 < m → false ≡ within_limits n m
+many_permissions n m l = out_of n m (λ k. let a = k.3 in let z : ⊥ = omega arith in z)
+
+pub all_kept : (n m : ℕ) → 1 ≤ n → n ≤ 128 → 1 ≤ m → m ≤ 256 → true ≡ within_limits n m
+all_kept n m n1 n128 m1 m256 = sym ((within_limits_iff n m).1 (n1, n128, m1, m256))
+
+-- each side of each limit
+pub ruleset limits = (all_kept, no_users, many_users, no_permissions, many_permissions)
 
 -- ---- no bit at m or above
 

@@ -1,29 +1,22 @@
-// The limits of a crew list, and the refusals that they give.
+// The limits of a crew list, and what they refuse.
 #![tactic(auto)]
 
 ghost use Rattle.std.specs.Prelude.{◌≡◌, ◌+◌, ◌*◌, ◌≤◌, length};
 ghost use Rattle.model.specs.Lists.{rows_at};
 ghost use Rattle.model.specs.State.{within_limits, rows_within};
 ghost use Rattle.model.specs.Refusals.{limits_refusal, crew_refusal};
+ghost use Rattle.refusals.specs.Numbers.{code_of};
 
-use refusals::{REFUSED_CREW, REFUSED_LIMITS};
-use sets_256::Set256;
-use tables::load256;
+use refusals::Refusal;
+use sets::Set256;
+use tables::load;
 
 // Whether the numbers of users and of permissions are from 1 to 128 and from 1 to 256.
+#[tactic(auto, using(crate::proofs::Within::limits))]
 pub fn limits_kept(n: u64, m: u64) -> bool
     ensures { result ≡ within_limits n m }
 {
-    if n < 1 {
-        return false;
-    }
-    if 128 < n {
-        return false;
-    }
-    if m < 1 {
-        return false;
-    }
-    m <= 256
+    matches!((n, m), (1..=128, 1..=256))
 }
 
 // Whether no row of the n users has a permission at m or above.
@@ -33,37 +26,30 @@ pub fn rows_within(crew: &[u64], at: usize, n: usize, m: usize) -> bool
     ensures { result ≡ rows_within m (rows_at n crew.now at) }
 {
     let inside = Set256::below(m);
-    let mut u = 0;
-    while u < n {
-        if !load256(crew, at + 4 * u).is_subset(inside) {
-            return false;
-        }
-        u += 1;
-    }
-    true
+    (0..n).all(|u| load(crew, at + 4 * u).is_subset(inside))
 }
 
-// 2, or 0 where n and m keep their limits.
-pub fn limits_refusal(n: u64, m: u64) -> u64
-    ensures { result ≡ limits_refusal n m }
+// Refuses numbers outside their limits.
+pub fn limits_refusal(n: u64, m: u64) -> Result<(), Refusal>
+    ensures { code_of result ≡ limits_refusal n m }
 {
     if !limits_kept(n, m) {
-        return REFUSED_LIMITS;
+        return Err(Refusal::Limits);
     }
-    0
+    Ok(())
 }
 
-// 3, or 0 where there are four crew words to a user, and no permission at m or above.
-pub fn crew_refusal(n: usize, m: usize, crew: &[u64]) -> u64
+// Refuses crew words that are not four to a user, or that have a permission at m or above.
+pub fn crew_refusal(n: usize, m: usize, crew: &[u64]) -> Result<(), Refusal>
     requires n_bound { n ≤ 128 }
     requires m_bound { m ≤ 256 }
-    ensures { result ≡ crew_refusal n m crew.now }
+    ensures { code_of result ≡ crew_refusal n m crew.now }
 {
     if crew.len() != 4 * n {
-        return REFUSED_CREW;
+        return Err(Refusal::Crew);
     }
     if !rows_within(crew, 0, n, m) {
-        return REFUSED_CREW;
+        return Err(Refusal::Crew);
     }
-    0
+    Ok(())
 }

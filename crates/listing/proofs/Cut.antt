@@ -4,12 +4,10 @@ use mathlib.Core.Path.{◌≡◌, sym, ◌∙◌}
 use mathlib.Core.List.{List}
 use Prim.Native.Nat.{ℕ, ◌<◌}
 use lib.ListN.{length, take, replicate, length-replicate}
-use Rattle.stores.specs.Stores.{put_at}
 use Rattle.text_crew.specs.Reader.{longest_text, buffer_length, read_crew}
 use Rattle.text_crew.proofs.Answers.{too_long}
-use Rattle.text_crew.proofs.Cut.{cut_same, cut_put}
+use Rattle.text_crew.proofs.Cut.{cut_same}
 use Rattle.listing.specs.Listing.{listing}
-use Rattle.listing.specs.Stream.{ListingPut}
 
 -- two texts that are read alike
 same_read : (a b : List ℕ) → read_crew a (replicate buffer_length 0) ≡ read_crew b (replicate buffer_length 0) → listing a ≡ listing b
@@ -20,11 +18,5 @@ both_long : (a b : List ℕ) → longest_text < length a → longest_text < leng
 both_long a b h g =
     same_read a b (sym (too_long a (replicate buffer_length 0) (length-replicate {A = ℕ} buffer_length 0) h) ∙ too_long b (replicate buffer_length 0) (length-replicate {A = ℕ} buffer_length 0) g)
 
-pub cut_listing : (space : ℕ) (text : List ℕ) → longest_text < space → listing (take space text) ≡ listing text
+pub cut_listing : (space : ℕ) (text bytes : List ℕ) → bytes ≡ take space text → longest_text < space → listing bytes ≡ listing text
 cut_listing = cut_same listing both_long
-
--- what is listed of the bytes read is the listing of the text
-pub cut_listed : (space n count : ℕ) (input text before after : List ℕ) → longest_text < space → take n input ≡ take space text → (count ≡ length (listing (take n input))) × (after ≡ put_at before 0 (listing (take n input))) → ListingPut text before after count
-cut_listed space n count input text before after h e l =
-    let p = cut_put listing both_long space n count input text before after h e l in
-    record { size = p.0; bytes = p.1 }

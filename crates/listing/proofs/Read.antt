@@ -2,7 +2,7 @@
 -- Assumes nothing.
 use mathlib.Core.Path.{◌≡◌, refl, sym, ◌∙◌, ap}
 use mathlib.Core.Bool.{So}
-use mathlib.Core.Logic.{◌≢◌, ◌⊎◌, ⊎_elim}
+use mathlib.Core.Logic.{◌⊎◌, ⊎_elim}
 use mathlib.Core.List.{List}
 use Prim.Native.Nat.{ℕ, ◌*◌}
 use lib.Dec.{eqb, leb}
@@ -17,14 +17,16 @@ use Rattle.model.specs.Calls.{mine}
 use Rattle.model.proofs.Record.{state_back}
 use Rattle.model.proofs.Steps.{Fit, after_fit}
 use Rattle.model.proofs.Claim.{fit_sound}
-use Rattle.text_crew.specs.declared.CrewRead.{CrewRead}
-use Rattle.text_lines.specs.declared.header.Header.{Header}
-use Rattle.text_lines.specs.declared.header.Header.TheVariants.{Crew, Malformed, Beyond}
+use Rattle.text_crew.specs.declared.CrewSize.{CrewSize}
+use Rattle.text_lines.proofs.Forms.{header_cases}
 use Rattle.text_crew.specs.Reader.{ReadReply, Read, read_result, read_refused, after_rows, after_header, rows_to, read_crew, laid, buffer_length, longest_text}
 use Rattle.text_lines.specs.Lines.{header_at}
 use Rattle.text_crew.specs.Reader.Read.{rows_read, bad_form, bad_bit}
 use Rattle.text_crew.proofs.Taken.{taken_rows, code_read}
-use Rattle.call_mine.specs.declared.MineAnswer.{MineAnswer}
+use Rattle.std.specs.Prelude.{Ok, Err}
+use Rattle.refusals.specs.declared.Refusal.{Refusal}
+use Rattle.refusals.specs.Numbers.{number_of}
+use Rattle.refusals.proofs.Numbers.{some_number}
 use Rattle.call_mine.specs.Results.{mine_result}
 use Rattle.call_mine.proofs.Counted.{mined_many, mined_few, mined_fit, mined_state}
 use Rattle.listing.specs.Listing.{Printable, settled, roles_text, listed, listing}
@@ -37,58 +39,61 @@ module _ (n m : ℕ) (crew ws : List ℕ) (full : length ws ≡ record_length) (
   abbrev rows : List ℕ
   rows = rows_at n crew 0
 
-  module _ (r : MineAnswer) (ws' : List ℕ) (p : mine_result r ws' ≡ mine n m crew ws) where
-    -- refused: that is 4
-    pub crew_refused : r.code ≢ 0 → refused_text r.code ≡ listed n m rows
-    unfolding listed
-    crew_refused d =
-        let many = mined_many n m crew ws full ok size inside r ws' p d in
-        ap refused_text many.0 ∙ sym (when-false (leb (length (candidates rows)) 128) (roles_text (settled (fresh n m rows))) (refused_text 4) many.1)
+  -- refused: that is 4
+  pub crew_refused : (r : Refusal) (ws' : List ℕ) → mine_result (Err r) ws' ≡ mine n m crew ws → refused_text (number_of r) ≡ listed n m rows
+  unfolding listed
+  crew_refused r ws' p =
+      let many = mined_many n m crew ws full ok size inside r ws' p in
+      ap refused_text many.0 ∙ sym (when-false (leb (length (candidates rows)) 128) (roles_text (settled (fresh n m rows))) (refused_text 4) many.1)
 
-    crew_fit : r.code ≡ 0 → Fit (fresh n m rows)
-    crew_fit z = mined_fit n m crew ws full ok size inside r ws' p z
+  module _ (c : ℕ) (ws' : List ℕ) (p : mine_result (Ok c) ws' ≡ mine n m crew ws) where
+    crew_fit : Fit (fresh n m rows)
+    crew_fit = mined_fit n m crew ws full ok size inside c ws' p
 
-    crew_listed : r.code ≡ 0 → roles_text (settled (fresh n m rows)) ≡ listed n m rows
+    crew_listed : roles_text (settled (fresh n m rows)) ≡ listed n m rows
     unfolding listed
-    crew_listed z =
-        sym (when-true (leb (length (candidates rows)) 128) (roles_text (settled (fresh n m rows))) (refused_text 4) (mined_few n m crew ws full ok size inside r ws' p z))
+    crew_listed =
+        sym (when-true (leb (length (candidates rows)) 128) (roles_text (settled (fresh n m rows))) (refused_text 4) (mined_few n m crew ws full ok size inside c ws' p))
 
     -- eliminated and reviewed: the record holds the settled state
-    module _ (ws2 : List ℕ) (z : r.code ≡ 0) (e : ws2 ≡ built (settled (state_of ws'))) where
+    module _ (ws2 : List ℕ) (e : ws2 ≡ built (settled (state_of ws'))) where
       settled_fit : Fit (settled (fresh n m rows))
       unfolding settled
-      settled_fit = after_fit (fresh n m rows) _ (crew_fit z)
+      settled_fit = after_fit (fresh n m rows) _ crew_fit
 
       settled_words : ws2 ≡ built (settled (fresh n m rows))
-      settled_words = e ∙ ap (λ (st : State). built (settled st)) (mined_state n m crew ws full ok size inside r ws' p z)
+      settled_words = e ∙ ap (λ (st : State). built (settled st)) (mined_state n m crew ws full ok size inside c ws' p)
 
       pub settled_sound : So (sound ws2)
       settled_sound = rw settled_words (fit_sound (settled (fresh n m rows)) settled_fit)
 
       pub settled_listed : roles_text (state_of ws2) ≡ listed n m rows
       settled_listed =
-          ap (λ (x : List ℕ). roles_text (state_of x)) settled_words ∙ ap roles_text (state_back (settled (fresh n m rows)) settled_fit.limits) ∙ crew_listed z
+          ap (λ (x : List ℕ). roles_text (state_of x)) settled_words ∙ ap roles_text (state_back (settled (fresh n m rows)) settled_fit.limits) ∙ crew_listed
 
 -- ---- the text
 
-module _ (text : List ℕ) (r : CrewRead) (ws : List ℕ) (p : read_result r ws ≡ read_crew text (replicate 512 0)) where
-  code : r.code ≡ (read_crew text (replicate 512 0)).code
-  code = code_read text (replicate 512 0) r ws p
+module _ (text ws : List ℕ) where
+  abbrev a : ReadReply
+  a = read_crew text (replicate 512 0)
 
-  pub text_refused : r.code ≢ 0 → refused_text r.code ≡ listing text
-  unfolding listing
-  text_refused d =
-      let a = read_crew text (replicate 512 0) in
+  abbrev roles : List ℕ
+  roles = listed a.n a.m (rows_at a.n a.words 0)
+
+  pub text_refused : (r : Refusal) → read_result (Err r) ws ≡ read_crew text (replicate 512 0) → refused_text (number_of r) ≡ listing text
+  unfolding listing read_result read_refused
+  text_refused r p =
+      let code : number_of r ≡ a.code = ap (λ (x : ReadReply). x.code) p in
       ap refused_text code
-      ∙ sym (when-false (eqb a.code 0) (listed a.n a.m (rows_at a.n a.words 0)) (refused_text a.code) (not-So (eqb a.code 0) (λ h. d (code ∙ (eqb_iff a.code 0).0 h))))
+      ∙ sym (when-false (eqb a.code 0) roles (refused_text a.code) (not-So (eqb a.code 0) (λ h. some_number r (code ∙ (eqb_iff a.code 0).0 h))))
 
-  pub text_listed : r.code ≡ 0 → listed r.n r.m (rows_at r.n (take (4 * r.n) ws) 0) ≡ listing text
+  pub text_listed : (size : CrewSize) → read_result (Ok size) ws ≡ read_crew text (replicate 512 0)
+      → listed size.n size.m (rows_at size.n (take (4 * size.n) ws) 0) ≡ listing text
   unfolding listing read_result
-  text_listed z =
-      let a = read_crew text (replicate 512 0) in
-      ap (listed r.n r.m) (taken_rows r.n ws)
+  text_listed size p =
+      ap (listed size.n size.m) (taken_rows size.n ws)
       ∙ ap (λ (x : ReadReply). listed x.n x.m (rows_at x.n x.words 0)) p
-      ∙ sym (when-true (eqb a.code 0) (listed a.n a.m (rows_at a.n a.words 0)) (refused_text a.code) ((eqb_iff a.code 0).1 (sym code ∙ z)))
+      ∙ sym (when-true (eqb a.code 0) roles (refused_text a.code) ((eqb_iff a.code 0).1 (code_read text (replicate 512 0) size ws p)))
 
 -- ---- what can be printed
 
@@ -102,11 +107,13 @@ rows_code text buffer n m (rows_read rs at) =
 rows_code text buffer n m bad_form = ◌⊎◌.inr (◌⊎◌.inr (◌⊎◌.inr (◌⊎◌.inr (refl))))
 rows_code text buffer n m bad_bit = ◌⊎◌.inr (◌⊎◌.inr (◌⊎◌.inl refl))
 
-header_code : (text buffer : List ℕ) (h : Header) → ((after_header text buffer h).code ≡ 0) ⊎ Printable (after_header text buffer h).code
+header_code : (text buffer : List ℕ)
+    → ((after_header text buffer (header_at text)).code ≡ 0) ⊎ Printable (after_header text buffer (header_at text)).code
 unfolding after_header read_refused
-header_code text buffer (Crew n m at) = rows_code text buffer n m (rows_to text m at n)
-header_code text buffer Malformed = ◌⊎◌.inr (◌⊎◌.inr (◌⊎◌.inr (◌⊎◌.inr (refl))))
-header_code text buffer Beyond = ◌⊎◌.inr (◌⊎◌.inl refl)
+header_code text buffer =
+    header_cases text (λ h e. rw e (rows_code text buffer h.n h.m (rows_to text h.m h.next h.n)))
+    (λ e. rw e (◌⊎◌.inr (◌⊎◌.inr (◌⊎◌.inr (◌⊎◌.inr (refl))))))
+    (λ e. rw e (◌⊎◌.inr (◌⊎◌.inl refl)))
 
 reader_code : (text buffer : List ℕ) → ((read_crew text buffer).code ≡ 0) ⊎ Printable (read_crew text buffer).code
 unfolding read_crew read_refused
@@ -118,7 +125,7 @@ reader_code text buffer =
     by_test t1 (λ y. ◌⊎◌.inr (◌⊎◌.inr (◌⊎◌.inl (ap (λ (x : ReadReply). x.code) (when-true t1 (read_refused 3 buffer) inner y)))))
     (λ y.
     by_test t2 (λ z. ◌⊎◌.inr (◌⊎◌.inr (◌⊎◌.inr (◌⊎◌.inr (ap (λ (x : ReadReply). x.code) (when-false t1 (read_refused 3 buffer) inner y ∙ when-true t2 (read_refused 10 buffer) rest z))))))
-    (λ z. rw (when-false t1 (read_refused 3 buffer) inner y ∙ when-false t2 (read_refused 10 buffer) rest z) (header_code text buffer (header_at text))))
+    (λ z. rw (when-false t1 (read_refused 3 buffer) inner y ∙ when-false t2 (read_refused 10 buffer) rest z) (header_code text buffer)))
 
 listed_forms : (n m : ℕ) (rs : List ℕ) → ((k : ℕ) × Printable k × (listed n m rs ≡ refused_text k)) ⊎ ((st : State) × (listed n m rs ≡ roles_text (settled st)))
 unfolding listed

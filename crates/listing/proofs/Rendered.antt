@@ -6,6 +6,7 @@ use mathlib.Core.List.{List, [], ◌∷◌, ◌++◌}
 use Prim.Native.Nat.{ℕ, zero, suc, ◌+◌, ◌*◌, ◌≤◌, ◌<◌}
 use native.Mathlib.Nat.{zero-add, lt_of_lt_of_le, lt-suc_self, lt_trans}
 use native.Mathlib.Omega.{arith}
+use Rattle.std.specs.Prelude.{Result, Ok, Err, IsOk}
 use lib.Count.{ones}
 use lib.ListN.{length, get_or}
 use lib.Pow.{pow_mono}
@@ -30,9 +31,10 @@ use Rattle.model.proofs.Claim.{claim}
 use Rattle.indexes.proofs.Sources.{narrow}
 use Rattle.quality.specs.Numbers.{weights_of, tolerance_of}
 use Rattle.stores.specs.Stores.{put_at}
-use Rattle.call_eliminate.specs.declared.EliminateAnswer.{EliminateAnswer}
-use Rattle.call_review.specs.declared.ReviewAnswer.{ReviewAnswer}
-use Rattle.call_quality.specs.declared.QualityAnswer.{QualityAnswer}
+use Rattle.refusals.specs.declared.Refusal.{Refusal}
+use Rattle.refusals.proofs.Numbers.{some_number}
+use Rattle.call_eliminate.specs.declared.Eliminated.{Eliminated}
+use Rattle.call_review.specs.declared.Reviewed.{Reviewed}
 use Rattle.call_eliminate.specs.Results.{eliminate_result}
 use Rattle.call_review.specs.Results.{review_result}
 use Rattle.call_quality.specs.Results.{quality_result}
@@ -44,13 +46,22 @@ use Rattle.text_roles.proofs.Puts.{lines_most}
 
 -- ---- elimination and review
 
-pub settle_is : (ws ws1 ws2 : List ℕ) (e : EliminateAnswer) (r : ReviewAnswer) → So (sound ws)
+-- the record as the calls leave it
+eliminated_words : (e : Result Eliminated Refusal) (ws : List ℕ) → (eliminate_result e ws).words ≡ ws
+eliminated_words (Ok done) ws = refl
+eliminated_words (Err r) ws = refl
+
+reviewed_words : (e : Result Reviewed Refusal) (ws : List ℕ) → (review_result e ws).words ≡ ws
+reviewed_words (Ok done) ws = refl
+reviewed_words (Err r) ws = refl
+
+pub settle_is : (ws ws1 ws2 : List ℕ) (e : Result Eliminated Refusal) (r : Result Reviewed Refusal) → So (sound ws)
     → eliminate_result e ws1 ≡ edit ws (eliminate (weights_of 1 1 1 1) (tolerance_of 1 1)) → review_result r ws2 ≡ edit ws1 (review (weights_of 1 1 1 1))
     → ws2 ≡ built (settled (state_of ws))
-unfolding eliminate_result review_result weights_of tolerance_of plain_weights plain_tolerance settled words_after
+unfolding weights_of tolerance_of plain_weights plain_tolerance settled words_after
 settle_is ws ws1 ws2 e r h p q =
-    let a : ws1 ≡ (edit ws (eliminate plain_weights plain_tolerance)).words = ap (λ (x : Edited). x.words) p in
-    let b : ws2 ≡ (edit ws1 (review plain_weights)).words = ap (λ (x : Edited). x.words) q in
+    let a : ws1 ≡ (edit ws (eliminate plain_weights plain_tolerance)).words = sym (eliminated_words e ws1) ∙ ap (λ (x : Edited). x.words) p in
+    let b : ws2 ≡ (edit ws1 (review plain_weights)).words = sym (reviewed_words r ws2) ∙ ap (λ (x : Edited). x.words) q in
     b ∙ ap (λ (x : List ℕ). (edit x (review plain_weights)).words) a
     ∙ (claim ws h (eliminate plain_weights plain_tolerance ∷ review plain_weights ∷ [])).afresh
 
@@ -112,11 +123,21 @@ plain_allowed : So (weights_allowed (weights_of 1 1 1 1))
 unfolding weights_of
 plain_allowed = (weights_allowed_iff (weights_of 1 1 1 1)).1 (omega arith, omega arith, omega arith, omega arith)
 
-pub quality_is : (ws : List ℕ) (r : QualityAnswer) → So (sound ws) → quality_result r ≡ quality_of ws (weights_of 1 1 1 1)
-    → r.quality ≡ quality (roles_of (state_of ws)) plain_weights (state_of ws).standing
-unfolding quality_result quality_of weights_of plain_weights state_of
-quality_is ws r h e =
-    (quality_conditions ws (weights_of 1 1 1 1) (quality_result r) e).condition2 (ap (λ (t : Told). t.code) e ∙ told_code _ _ ∙ fit_then ws _ h ∙ (weights_check (weights_of 1 1 1 1)).passes plain_allowed)
+-- of a sound record the quality is told
+told : (ws : List ℕ) (r : Result ℕ Refusal) → So (sound ws) → quality_result r ≡ quality_of ws (weights_of 1 1 1 1) → (quality_result r).code ≡ 0
+unfolding quality_of weights_of
+told ws r h e = ap (λ (t : Told). t.code) e ∙ told_code _ _ ∙ fit_then ws _ h ∙ (weights_check (weights_of 1 1 1 1)).passes plain_allowed
+
+pub quality_told : (ws : List ℕ) (r : Result ℕ Refusal) → So (sound ws) → quality_result r ≡ quality_of ws (weights_of 1 1 1 1) → IsOk r
+quality_told ws (Ok q) h e = refl
+quality_told ws (Err r) h e = absurd (some_number r (told ws (Err r) h e))
+
+pub quality_is : (ws : List ℕ) (r : Result ℕ Refusal) (q : ℕ) → So (sound ws) → quality_result r ≡ quality_of ws (weights_of 1 1 1 1) → r ≡ Ok q
+    → q ≡ quality (roles_of (state_of ws)) plain_weights (state_of ws).standing
+unfolding weights_of plain_weights state_of
+quality_is ws r q h e is =
+    let f : quality_result (Ok q) ≡ quality_of ws (weights_of 1 1 1 1) = rw is at e in
+    (quality_conditions ws (weights_of 1 1 1 1) (quality_result (Ok q)) f).condition2 (told ws (Ok q) h f)
 
 pub count_is : (ws : List ℕ) (n s : ℕ) → n ≡ ones s → s ≡ set_at 2 ws 4 → n ≡ ones (state_of ws).standing
 unfolding state_of

@@ -10,14 +10,14 @@ use Rattle.text.specs.Decimal.{decimal_digit, decimal_at, decimal_of, decimal}
 use Rattle.text_sets.specs.Hexadecimal.{hexadecimal_at, hexadecimal_value, hexadecimal}
 use Rattle.text_lines.specs.Format.{digits_for}
 use Rattle.text_crew.specs.Reader.{with_row, next_row, rows_to, read_refused, laid, after_rows, after_header, read_crew}
-use Rattle.text_lines.specs.Lines.{limited, header_end, header_rest, header_at, row_rest, row_digits_at}
+use Rattle.text_lines.specs.Lines.{limited, header_end, header_rest, header_fields, header_at, row_rest, row_digits_at}
 use Rattle.listing.specs.Listing.{plain_weights, plain_tolerance, settled, role_line, roles_text, listed, listing}
 use Rattle.text_roles.specs.Lines.{field, line, lines_to, head_line, refused_text}
 
 -- opens all that a listing computes by
 unfoldable shown : ℕ
 unfolding everything digit_byte digit_of digit_at holds decimal_digit decimal_at decimal_of decimal hexadecimal_at hexadecimal_value hexadecimal digits_for
-    limited header_end header_rest header_at row_rest row_digits_at with_row next_row rows_to read_refused laid after_rows after_header read_crew
+    limited header_end header_rest header_fields header_at row_rest row_digits_at with_row next_row rows_to read_refused laid after_rows after_header read_crew
     plain_weights plain_tolerance settled field line lines_to head_line refused_text role_line roles_text listed listing
 shown = 0
 

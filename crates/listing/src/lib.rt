@@ -30,8 +30,8 @@ fn settle(rec: &mut [u64])
     requires { So (sound rec.old) }
     ensures { rec.new ≡ built (settled (state_of rec.old)) }
 {
-    panel_eliminate(rec, 1, 1, 1, 1, 1, 1);
-    panel_review(rec, 1, 1, 1, 1);
+    let _ = panel_eliminate(rec, 1, 1, 1, 1, 1, 1);
+    let _ = panel_review(rec, 1, 1, 1, 1);
 }
 
 // Mines, eliminates, reviews and writes the roles, or the refusal.
@@ -40,12 +40,13 @@ fn list_crew(n: u64, m: u64, crew: &[u64], out: &mut [u8]) -> usize
     ensures { (result ≡ length (listed n m (rows_at n crew.now 0))) × (out.new ≡ put_at out.old 0 (listed n m (rows_at n crew.now 0))) × (result ≤ most_bytes) }
 {
     let mut rec = [0u64; LENGTH];
-    let mined = panel_mine(n, m, crew, &mut rec);
-    if mined.code != 0 {
-        return put_refused(out, mined.code);
+    match panel_mine(n, m, crew, &mut rec) {
+        Ok(_) => {
+            settle(&mut rec);
+            put_roles(&rec, out)
+        }
+        Err(refusal) => put_refused(out, refusal.number()),
     }
-    settle(&mut rec);
-    put_roles(&rec, out)
 }
 
 // Writes what the lister prints for this text; how many bytes that is.
@@ -53,9 +54,9 @@ pub fn list_roles(text: &[u8], out: &mut [u8; MOST]) -> usize
     ensures { (result ≡ length (listing text.now)) × (out.new ≡ put_at out.old 0 (listing text.now)) × (result ≤ length out.new) }
 {
     let mut rows = [0u64; 512];
-    let read = read_crew(text, &mut rows);
-    if read.code != 0 {
-        return put_refused(out, read.code);
-    }
-    list_crew(read.n, read.m, &rows[..4 * read.n as usize], out)
+    let size = match read_crew(text, &mut rows) {
+        Ok(size) => size,
+        Err(refusal) => return put_refused(out, refusal.number()),
+    };
+    list_crew(size.n, size.m, &rows[..4 * size.n as usize], out)
 }

@@ -7,7 +7,7 @@ ghost use Rattle.text_roles.specs.Words.{most_bytes};
 ghost use Rattle.listing.specs.Listing.{roles_text};
 
 use call_quality::panel_quality;
-use tables::{STANDING, load128};
+use tables::{STANDING, load};
 use text_roles::{put_head, put_lines};
 
 // The head and a line for each standing role.
@@ -16,8 +16,8 @@ pub fn put_roles(rec: &[u64], out: &mut [u8]) -> usize
     requires most_bytes_in_bounds { most_bytes ≤ length out.old }
     ensures { (result ≡ length (roles_text (state_of rec.now))) × (out.new ≡ put_at out.old 0 (roles_text (state_of rec.now))) × (result ≤ most_bytes) }
 {
-    let quality = panel_quality(rec, 1, 1, 1, 1).quality;
-    let count = load128(rec, STANDING).count() as u64;
+    let quality = panel_quality(rec, 1, 1, 1, 1).unwrap();
+    let count = load::<2>(rec, STANDING).count() as u64;
     let start = put_head(out, count, quality);
     put_lines(rec, out, start)
 }

@@ -20,8 +20,7 @@ use Rattle.model.specs.Lists.{set_at}
 use Rattle.model.proofs.Lists.{set_at_words}
 use Rattle.model.proofs.Growing.{Among, place_new, place_old}
 use Rattle.mining.specs.Mining.{Admits, Seen, Known, Remembered, Adds}
-use Rattle.mining.specs.declared.Admitted.{Admitted}
-use Rattle.mining.specs.declared.Admitted.TheVariants as admitted
+use Rattle.std.specs.Prelude.{Option, Some, None}
 
 -- a set stored in a slot
 pub slot_stored : (slots : List ℕ) (s x : ℕ) → length slots ≡ 512 → s < 128 → x < 2 ^ 256 → Remembered x slots (put_at slots (4 * s) (words_of 4 x))
@@ -66,9 +65,9 @@ pub known_there : (slots : List ℕ) (x y s z : ℕ) → s < 128 → z ≡ set_a
 known_there slots x y s z h e t = ◌⊎◌.inr (◌⊎◌.inr (s, h, eqb-true y z t ∙ e))
 
 -- slots of sets that are all in the table
-pub admits_adds : (xs t slots : List ℕ) (a : Admitted) → Admits xs t a → Seen slots xs → Adds xs t slots a
-admits_adds xs t slots (admitted.Count k) h s = (h, s)
-admits_adds xs t slots admitted.Full h s = h
+pub admits_adds : (xs t slots : List ℕ) (a : Option ℕ) → Admits xs t a → Seen slots xs → Adds xs t slots a
+admits_adds xs t slots (Some k) h s = (h, s)
+admits_adds xs t slots None h s = h
 
 -- empty slots
 pub seen_none : (slots xs : List ℕ) → length slots ≡ 512 → ((i : ℕ) → get_or slots i 0 ≡ 0) → Seen slots xs

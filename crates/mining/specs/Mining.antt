@@ -1,13 +1,9 @@
 -- What the functions promise of their answers, by the answers' cases. A table t with k sets has them at `rows_at k t 0`.
 -- Assumes nothing.
-use Rattle.std.specs.Prelude.{◌≡◌, Bool, true, false, ◌≢◌, ◌⊎◌, List, ℕ, ◌+◌, ◌*◌, ◌≤◌, ◌<◌, length, get_or}
+use Rattle.std.specs.Prelude.{◌≡◌, Bool, true, false, ◌≢◌, ◌⊎◌, List, ℕ, ◌+◌, ◌*◌, ◌≤◌, ◌<◌, length, get_or, Option, Some, None}
 use Rattle.sets.specs.Words.{word}
 use Rattle.model.specs.Candidates.{Listed}
 use Rattle.model.specs.Lists.{set_at, rows_at}
-use Rattle.mining.specs.declared.Admitted.{Admitted}
-use Rattle.mining.specs.declared.Admitted.TheVariants as admitted
-use Rattle.mining.specs.declared.Mined.{Mined}
-use Rattle.mining.specs.declared.Mined.TheVariants as mined
 use Rattle.tables.specs.Tables.{table256_length}
 
 -- a table of 512 words with k sets: there are at most 128, and zeros follow them
@@ -23,9 +19,9 @@ pub record HoldsList (t : List ℕ) (k : ℕ) (xs : List ℕ) : Type 0 where
   pub count : k ≡ length xs
 
 -- a table that was to hold xs
-abbrev pub Admits : List ℕ → List ℕ → Admitted → Type 0
-Admits xs t (admitted.Count k) = HoldsList t k xs
-Admits xs t admitted.Full = 128 < length xs
+abbrev pub Admits : List ℕ → List ℕ → Option ℕ → Type 0
+Admits xs t (Some k) = HoldsList t k xs
+Admits xs t None = 128 < length xs
 
 -- a table that holds xs, by its words
 pub record Written (t : List ℕ) (k : ℕ) (xs : List ℕ) : Type 0 where
@@ -33,9 +29,9 @@ pub record Written (t : List ℕ) (k : ℕ) (xs : List ℕ) : Type 0 where
   pub words : (i j : ℕ) → i < 128 → j < 4 → get_or t (4 * i + j) 0 ≡ word (get_or xs i 0) j
 
 -- a table that was to hold the candidates xs
-abbrev pub Mines : List ℕ → List ℕ → Mined → Type 0
-Mines xs t (mined.Count k) = Written t k xs
-Mines xs t mined.TooMany = 128 < length xs
+abbrev pub Mines : List ℕ → List ℕ → Option ℕ → Type 0
+Mines xs t (Some k) = Written t k xs
+Mines xs t None = 128 < length xs
 
 -- ---- the meets that were seen
 
@@ -57,6 +53,6 @@ pub record Remembered (x : ℕ) (slots slots' : List ℕ) : Type 0 where
   pub others : (s : ℕ) → s ≢ slot → set_at 4 slots' (4 * s) ≡ set_at 4 slots (4 * s)
 
 -- a table that was to hold xs, with the slots
-abbrev pub Adds : List ℕ → List ℕ → List ℕ → Admitted → Type 0
-Adds xs t slots (admitted.Count k) = HoldsList t k xs × Seen slots xs
-Adds xs t slots admitted.Full = 128 < length xs
+abbrev pub Adds : List ℕ → List ℕ → List ℕ → Option ℕ → Type 0
+Adds xs t slots (Some k) = HoldsList t k xs × Seen slots xs
+Adds xs t slots None = 128 < length xs

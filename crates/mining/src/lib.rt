@@ -5,7 +5,7 @@
 mod seen;
 
 ghost use Rattle.std.specs.Prelude.{◌≡◌, ◌≢◌, ℕ, ◌+◌, ◌*◌, ◌≤◌, length, get_or};
-ghost use Rattle.sets_256.specs.Held.{set256};
+ghost use Rattle.sets.specs.Held.{set_of};
 ghost use Rattle.model.specs.Candidates.{place, add_row, candidates, Listed, Growing, Table};
 ghost use Rattle.model.specs.Lists.{rows_at};
 ghost use Rattle.tables.specs.Search.{Between};
@@ -13,47 +13,34 @@ ghost use Rattle.mining.specs.Mining.{Framed, Admits, Seen, Adds, Mines};
 ghost use Rattle.tables.specs.Tables.{table256_length};
 
 use seen::{is_known, remember};
-use sets_256::Set256;
-use tables::{Found, insert, load256, search};
+use sets::Set256;
+use tables::{insert, load, search};
 
 // The most sets that a table has room for.
 const LIMIT: usize = 128;
 
-// How many sets a table has now; or that there is no room for another.
-#[derive(Clone, Copy)]
-pub enum Admitted {
-    Count(usize),
-    Full,
-}
-
-// How many candidates there are; or that there are more than 128.
-#[derive(Clone, Copy)]
-pub enum Mined {
-    Count(usize),
-    TooMany,
-}
-
-// Puts x, which the table lacks, at its place.
-fn put(table: &mut [u64], n: usize, at: usize, x: Set256) -> Admitted
+// Puts x, which the table lacks, at its place. Like each function below it answers how many sets the table has then, or nothing where there is no room
+// for another.
+fn put(table: &mut [u64], n: usize, at: usize, x: Set256) -> Option<usize>
     requires framed { Framed table.old n }
-    requires between { Between n (rows_at n table.old 0) (set256 x) at }
-    ensures { Admits (place (set256 x) (rows_at n table.old 0)) table.new result }
+    requires between { Between n (rows_at n table.old 0) (set_of x) at }
+    ensures { Admits (place (set_of x) (rows_at n table.old 0)) table.new result }
 {
     if n == LIMIT {
-        return Admitted::Full;
+        return None;
     }
     insert(table, n, at, x);
-    Admitted::Count(n + 1)
+    Some(n + 1)
 }
 
 // One search, and x is put at its place where it is new. From now on it is known.
-fn admit(table: &mut [u64], seen: &mut [u64], n: usize, x: Set256) -> Admitted
+fn admit(table: &mut [u64], seen: &mut [u64], n: usize, x: Set256) -> Option<usize>
     requires { Framed table.old n × Growing (rows_at n table.old 0) × Seen seen.old (rows_at n table.old 0) }
-    ensures { Adds (place (set256 x) (rows_at n table.old 0)) table.new seen.new result }
+    ensures { Adds (place (set_of x) (rows_at n table.old 0)) table.new seen.new result }
 {
     remember(seen, x);
-    let Found::Missing(at) = search(table, n, x) else {
-        return Admitted::Count(n);
+    let Err(at) = search(table, n, x) else {
+        return Some(n);
     };
     put(table, n, at, x)
 }
@@ -61,72 +48,60 @@ fn admit(table: &mut [u64], seen: &mut [u64], n: usize, x: Set256) -> Admitted
 // Admits the intersections of r, which the table has, with the sets of the table. They come into the same table while it is walked: one
 // that comes below place i moves the set at i up, so that its meet is asked for again, and is known then; one that comes above is
 // within r, and is its own meet. So no set is left out, and no copy of the table is needed.
-fn add_meets(table: &mut [u64], seen: &mut [u64], n: usize, r: Set256) -> Admitted
-    requires { Framed table.old n × Growing (rows_at n table.old 0) × Seen seen.old (rows_at n table.old 0) × Listed (rows_at n table.old 0) (set256 r) }
-    ensures { Adds (add_row (set256 r) (rows_at n table.old 0)) table.new seen.new result }
+fn add_meets(table: &mut [u64], seen: &mut [u64], n: usize, r: Set256) -> Option<usize>
+    requires { Framed table.old n × Growing (rows_at n table.old 0) × Seen seen.old (rows_at n table.old 0) × Listed (rows_at n table.old 0) (set_of r) }
+    ensures { Adds (add_row (set_of r) (rows_at n table.old 0)) table.new seen.new result }
 {
     let mut count = n;
     let mut i = 0;
     while i < count {
-        let x = load256(table, 4 * i);
+        let x = load(table, 4 * i);
         let y = r.intersection(x);
         i += 1;
         if is_known(seen, x, y) {
             continue;
         }
-        let Admitted::Count(k) = admit(table, seen, count, y) else {
-            return Admitted::Full;
-        };
-        count = k;
+        count = admit(table, seen, count, y)?;
     }
-    Admitted::Count(count)
+    Some(count)
 }
 
 // A row that the table lacks: it is put at its place, and then its intersections with the sets that were there.
-fn add_new(table: &mut [u64], seen: &mut [u64], n: usize, at: usize, r: Set256) -> Admitted
-    requires { Framed table.old n × Growing (rows_at n table.old 0) × Seen seen.old (rows_at n table.old 0) × (set256 r ≢ 0) × Between n (rows_at n table.old 0) (set256 r) at }
-    ensures { Adds (add_row (set256 r) (rows_at n table.old 0)) table.new seen.new result }
+fn add_new(table: &mut [u64], seen: &mut [u64], n: usize, at: usize, r: Set256) -> Option<usize>
+    requires { Framed table.old n × Growing (rows_at n table.old 0) × Seen seen.old (rows_at n table.old 0) × (set_of r ≢ 0) × Between n (rows_at n table.old 0) (set_of r) at }
+    ensures { Adds (add_row (set_of r) (rows_at n table.old 0)) table.new seen.new result }
 {
-    let Admitted::Count(k) = put(table, n, at, r) else {
-        return Admitted::Full;
-    };
+    let k = put(table, n, at, r)?;
     add_meets(table, seen, k, r)
 }
 
 // One more user's row. An empty row, or one that the table has, adds nothing.
-fn add_row(table: &mut [u64], seen: &mut [u64], n: usize, r: Set256) -> Admitted
+fn add_row(table: &mut [u64], seen: &mut [u64], n: usize, r: Set256) -> Option<usize>
     requires { Framed table.old n × Table (rows_at n table.old 0) × Seen seen.old (rows_at n table.old 0) }
-    ensures { Adds (add_row (set256 r) (rows_at n table.old 0)) table.new seen.new result }
+    ensures { Adds (add_row (set_of r) (rows_at n table.old 0)) table.new seen.new result }
 {
     if r.is_empty() {
-        return Admitted::Count(n);
+        return Some(n);
     }
-    let Found::Missing(at) = search(table, n, r) else {
-        return Admitted::Count(n);
+    let Err(at) = search(table, n, r) else {
+        return Some(n);
     };
     add_new(table, seen, n, at, r)
 }
 
-// Mines the n rows that stand in `crew` from place `at` on into a table of zeros. It stops at the first candidate too many, since more
-// rows never give fewer candidates.
+// Mines the n rows that stand in `crew` from place `at` on into a table of zeros. It answers how many candidates there are, or nothing where there are
+// more than 128: it stops at the first candidate too many, since more rows never give fewer candidates.
 // A row that is empty or a candidate by then costs one search at most. Each other row is a new candidate, so there are at most 128 of
 // them, whatever n is, and they meet at most 128 sets each, and the sets that they give once more. A meet is an AND and two or three
 // tests of four words, and one search where it is not in its slot of `seen`. At most 128 sets are put in, each with at most 508 words moved.
-pub fn mine(crew: &[u64], at: usize, n: usize, table: &mut [u64]) -> Mined
+pub fn mine(crew: &[u64], at: usize, n: usize, table: &mut [u64]) -> Option<usize>
     requires { (at + 4 * n ≤ length crew.now) × (length table.old ≡ table256_length) × ((i : ℕ) → get_or table.old i 0 ≡ 0) }
     ensures { Mines (candidates (rows_at n crew.now at)) table.new result }
 {
     let mut seen = [0u64; 512];
-    let end = at + 4 * n;
-    let mut count = 0;
-    let mut i = at;
-    while i + 4 <= end {
-        let r = load256(crew, i);
-        let Admitted::Count(k) = add_row(table, &mut seen, count, r) else {
-            return Mined::TooMany;
-        };
-        count = k;
-        i += 4;
+    let mut candidates = 0;
+    for u in 0..n {
+        candidates = add_row(table, &mut seen, candidates, load(crew, at + 4 * u))?;
     }
-    Mined::Count(count)
+    Some(candidates)
 }

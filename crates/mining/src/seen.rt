@@ -1,12 +1,12 @@
 // The meets that mining has seen: a slice of 128 slots of four words each, with zeros where there is none yet. What stands in a slot is in
 // the table of candidates, so that it needs no search. A slot that two sets share has the later one.
 ghost use Rattle.std.specs.Prelude.{◌≡◌, ◌<◌, length};
-ghost use Rattle.sets_256.specs.Held.{set256};
+ghost use Rattle.sets.specs.Held.{set_of};
 ghost use Rattle.mining.specs.Mining.{Known, Remembered};
 ghost use Rattle.tables.specs.Tables.{table256_length};
 
-use sets_256::Set256;
-use tables::{load256, store256};
+use sets::Set256;
+use tables::{load, store};
 
 // How many slots there are.
 const SLOTS: usize = 128;
@@ -23,21 +23,15 @@ fn slot_of(x: Set256) -> usize
 // Whether y, the meet of a row and x, has no need of a search: it is x, it was seen before, or it is empty.
 pub fn is_known(seen: &[u64], x: Set256, y: Set256) -> bool
     requires { length seen.now ≡ table256_length }
-    ensures { Known seen.now (set256 x) (set256 y) result }
+    ensures { Known seen.now (set_of x) (set_of y) result }
 {
-    if y.equals(x) {
-        return true;
-    }
-    if y.equals(load256(seen, 4 * slot_of(y))) {
-        return true;
-    }
-    y.is_empty()
+    y == x || y == load(seen, 4 * slot_of(y)) || y.is_empty()
 }
 
 // Puts x in its slot.
 pub fn remember(seen: &mut [u64], x: Set256)
     requires { length seen.old ≡ table256_length }
-    ensures { Remembered (set256 x) seen.old seen.new }
+    ensures { Remembered (set_of x) seen.old seen.new }
 {
-    store256(seen, 4 * slot_of(x), x);
+    store(seen, 4 * slot_of(x), x);
 }

@@ -11,7 +11,7 @@ use lib.Count.{ones, ones-le}
 use Rattle.sets.specs.Truth.{total}
 use Rattle.sets.specs.Sets.{has}
 use Rattle.sets.proofs.Truth.{not-So, reflect}
-use Rattle.sets.proofs.Items.{below_of_items}
+use Rattle.sets.proofs.Members.{below_of_items}
 use Rattle.sets.proofs.Counts.{total-suc, total-≤, total_bound, total-zero}
 use Rattle.model.specs.Hierarchy.{Roles, candidate_count, immediate_juniors, direct_permissions, direct_members, building}
 use Rattle.model.specs.Quality.{most_weight, most_denominator, Weights, Counts, weights_allowed, counted, counts, weigh, Tolerance, tolerance_allowed}

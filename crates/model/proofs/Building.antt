@@ -11,7 +11,7 @@ use lib.ListN.{get_or}
 use Rattle.sets.specs.Truth.{◌and◌}
 use Rattle.sets.specs.Sets.{has}
 use Rattle.sets.proofs.Truth.{and_iff, find}
-use Rattle.sets.proofs.Items.{item_below, empty_of}
+use Rattle.sets.proofs.Members.{item_below, empty_of}
 use Rattle.sets.proofs.Order.{subset_iff, subset_trans, proper_subset_lem, proper_trans}
 use Rattle.model.specs.Hierarchy.{Roles, candidate_count, permission_set, authorised_users, senior, immediately_senior, immediate_juniors, direct_permissions, direct_members, building}
 use Rattle.model.specs.Chains.{link, Chain, links_but, Reaches, may, HasMember, HasPermission}

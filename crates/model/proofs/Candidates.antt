@@ -14,7 +14,7 @@ use borrow.Author.Tests.{eqb-true, eq-eqb, ne_eqb}
 use Rattle.sets.specs.Truth.{◌and◌, ◌or◌, ◌implies◌, when◌then◌else◌, any, all}
 use Rattle.sets.specs.Sets.{has, ◌∩◌, ◌∖◌, single, subset, proper_subset, collect}
 use Rattle.sets.proofs.Truth.{by_test, or_iff, same_test, not-So, So-not, reflect, equal_or, when-true, when-false}
-use Rattle.sets.proofs.Items.{has-zero, below_power, same_set, item_below, below_of_items, item_of, has_above}
+use Rattle.sets.proofs.Members.{has-zero, below_power, same_set, item_below, below_of_items, item_of, has_above}
 use Rattle.sets.proofs.Order.{∩-iff, ∖-iff, ∖-lt, single_iff, subset_iff, subset_refl, subset-≤, proper_iff, proper-<, proper_subset_lem, collect_lt, collect_iff, zero-∩, ∩-comm}
 use Rattle.model.specs.Candidates.{place, admit, admit_meets, add_row, mined_to, candidates, Intersection, Listed, Growing, Table}
 use Rattle.model.proofs.Growing.{Among, listed_at, listed-none, listed-first, listed_later, listed_cons, growing_none, growing_later, growing_place, among_length, among_equal, place_new, place_old, place_iff, place_growing, place-listed, place-length}

@@ -10,7 +10,7 @@ use lib.Count.{ones, ones-le}
 use Rattle.sets.specs.Truth.{◌and◌, any}
 use Rattle.sets.specs.Sets.{has, collect}
 use Rattle.sets.proofs.Truth.{and_iff, any_iff, equal_or, reflect}
-use Rattle.sets.proofs.Items.{item_below}
+use Rattle.sets.proofs.Members.{item_below}
 use Rattle.sets.proofs.Order.{∪-iff, ∪-lt, collect_iff, collect_lt, subset_iff, proper_iff}
 use Rattle.sets.proofs.Counts.{ones_proper}
 use Rattle.model.specs.Hierarchy.{RoleRows}

@@ -8,7 +8,7 @@ use Prim.Native.Nat.{ℕ, ◌<◌}
 use Rattle.sets.specs.Truth.{◌and◌}
 use Rattle.sets.specs.Sets.{has, ◌∪◌, ◌∖◌, single}
 use Rattle.sets.proofs.Truth.{by_test, So-not, and_iff, find}
-use Rattle.sets.proofs.Items.{same_set}
+use Rattle.sets.proofs.Members.{same_set}
 use Rattle.sets.proofs.Order.{∖-iff, ∖-lt, ∪-lt, single_iff, single_lt}
 use Rattle.model.specs.Hierarchy.{Roles, candidate_count, permission_set, authorised_users, senior, immediately_senior, immediate_juniors, direct_permissions, direct_members}
 use Rattle.model.proofs.Direct.{NextTo, next_taker, direct_same, direct_kept}

@@ -13,7 +13,7 @@ use lib.Seq.{ext_get_or}
 use Rattle.sets.specs.Truth.{bit}
 use Rattle.sets.specs.Sets.{has, ◌∪◌, ◌∖◌, single}
 use Rattle.sets.proofs.Truth.{either, by_test, So-not, not-So, bit-true, bit-false}
-use Rattle.sets.proofs.Items.{item_below, below_of_items}
+use Rattle.sets.proofs.Members.{item_below, below_of_items}
 use Rattle.sets.proofs.Order.{∪-iff, ∖-iff, single_iff, collect_iff}
 use Rattle.model.specs.Lists.{set_at, rows_at, OneOf}
 use Rattle.model.specs.Candidates.{Intersection, Listed, candidates}

@@ -11,7 +11,7 @@ use lib.Count.{ones}
 use Rattle.sets.specs.Truth.{◌and◌}
 use Rattle.sets.specs.Sets.{has, ◌∩◌, ◌∖◌, single}
 use Rattle.sets.proofs.Truth.{by_test, So-not, and_iff, find, equal_or, reflect}
-use Rattle.sets.proofs.Items.{same_set, has-zero, empty_of}
+use Rattle.sets.proofs.Members.{same_set, has-zero, empty_of}
 use Rattle.sets.proofs.Order.{∩-iff, ∖-iff, single_iff, collect_iff, collect_lt}
 use Rattle.sets.proofs.Counts.{ones-∖}
 use Rattle.model.specs.Hierarchy.{direct_of}

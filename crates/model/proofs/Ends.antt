@@ -10,7 +10,7 @@ use lib.Count.{ones}
 use Rattle.sets.specs.Truth.{◌and◌, when◌then◌else◌}
 use Rattle.sets.specs.Sets.{has, ◌∩◌, subset, collect}
 use Rattle.sets.proofs.Truth.{by_test, and_iff, any_of, when-true, when-false}
-use Rattle.sets.proofs.Items.{same_set}
+use Rattle.sets.proofs.Members.{same_set}
 use Rattle.sets.proofs.Order.{∩-iff, subset_iff, subset_trans, subset-∩-eq, collect_iff}
 use Rattle.sets.proofs.Counts.{ones-subset}
 use Rattle.model.specs.Hierarchy.{Roles, candidate_count, permission_set}

@@ -9,7 +9,7 @@ use native.Mathlib.Omega.{arith}
 use lib.ListN.{length, get_or}
 use Rattle.sets.specs.Sets.{has, ◌∩◌, subset}
 use Rattle.sets.proofs.Truth.{So-not, equal_or}
-use Rattle.sets.proofs.Items.{has-zero, item_below, same_set}
+use Rattle.sets.proofs.Members.{has-zero, item_below, same_set}
 use Rattle.sets.proofs.Order.{∩-iff, ∩-subset_left, ∩-subset_right, subset_iff, proper_iff}
 use Rattle.model.specs.Candidates.{candidates}
 use Rattle.model.specs.Hierarchy.{candidate_count, permission_set, authorised_users}

@@ -10,7 +10,7 @@ use native.Mathlib.Nat.{lt_of_lt_of_le}
 use lib.ListN.{get_or}
 use lib.Pow.{pow_mono}
 use Rattle.sets.specs.Sets.{has}
-use Rattle.sets.proofs.Items.{item_below}
+use Rattle.sets.proofs.Members.{item_below}
 use Rattle.sets.proofs.Order.{subset_iff, proper_iff}
 use Rattle.model.specs.Lists.{rows_at}
 use Rattle.model.specs.Candidates.{candidates}

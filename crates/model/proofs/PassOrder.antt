@@ -14,7 +14,7 @@ use lib.ListN.{length, get_or}
 use Rattle.sets.specs.Truth.{◌and◌, any, none}
 use Rattle.sets.specs.Sets.{has, ◌∖◌, single}
 use Rattle.sets.proofs.Truth.{by_test, So-not, and_iff, or_iff, eqb_iff, ltb_iff, any_of, any_is, none_of, none_is, either, equal_or, below_suc, when-true, when-false}
-use Rattle.sets.proofs.Items.{has-zero, item_below, item_of}
+use Rattle.sets.proofs.Members.{has-zero, item_below, item_of}
 use Rattle.sets.proofs.Order.{∖-iff, ∖-lt, single_iff}
 use Rattle.sets.proofs.Counts.{ones_without, ones-zero, ones_some}
 use Rattle.model.specs.Machine.{least, before, first, foremost}

@@ -12,7 +12,7 @@ use lib.Count.{ones}
 use Rattle.sets.specs.Truth.{when◌then◌else◌}
 use Rattle.sets.specs.Sets.{has, ◌∖◌, single}
 use Rattle.sets.proofs.Truth.{So-not, not-So, eqb_iff, equal_or, when-true, when-false}
-use Rattle.sets.proofs.Items.{has-zero, item_below}
+use Rattle.sets.proofs.Members.{has-zero, item_below}
 use Rattle.sets.proofs.Order.{∖-iff, ∖-lt, single_iff}
 use Rattle.sets.proofs.Counts.{ones-zero, ones_none}
 use Rattle.model.specs.Hierarchy.{Roles, candidate_count}

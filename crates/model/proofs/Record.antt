@@ -16,7 +16,7 @@ use borrow.Author.Tests.{lt-ltb, le-ltb}
 use Rattle.sets.specs.Truth.{◌and◌, when◌then◌else◌, all}
 use Rattle.sets.specs.Sets.{has}
 use Rattle.sets.specs.Words.{word}
-use Rattle.sets.proofs.Items.{digit, has_above}
+use Rattle.sets.proofs.Members.{digit, has_above}
 use Rattle.sets.proofs.Order.{collect_lt}
 use Rattle.sets.proofs.Words.{word_lt}
 use Rattle.sets.proofs.Truth.{So-not, and_iff, eqb_iff, all_iff, when-true, when-false, either, reflect}

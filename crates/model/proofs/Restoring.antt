@@ -8,7 +8,7 @@ use native.Mathlib.Omega.{arith}
 use lib.Count.{ones}
 use Rattle.sets.specs.Sets.{has, ◌∩◌, ◌∪◌, ◌∖◌, single}
 use Rattle.sets.proofs.Truth.{not-So, equal_or}
-use Rattle.sets.proofs.Items.{same_set}
+use Rattle.sets.proofs.Members.{same_set}
 use Rattle.sets.proofs.Order.{∪-iff, ∖-iff, single_iff}
 use Rattle.sets.proofs.Counts.{ones-∖, ones_with}
 use Rattle.model.specs.Hierarchy.{Roles, candidate_count, permission_set, authorised_users, senior, immediately_senior, immediate_juniors, direct_permissions, direct_members}

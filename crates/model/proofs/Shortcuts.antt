@@ -10,7 +10,7 @@ use lib.ListN.{get_or}
 use Rattle.sets.specs.Truth.{◌and◌, any, none}
 use Rattle.sets.specs.Sets.{has, ◌∩◌, ◌∪◌, ◌∖◌, single, subset, proper_subset}
 use Rattle.sets.proofs.Truth.{by_test, So-not, and_iff, any_iff, none_of, none_is, find, either, equal_or}
-use Rattle.sets.proofs.Items.{same_set, has-zero, empty_of, item_below}
+use Rattle.sets.proofs.Members.{same_set, has-zero, empty_of, item_below}
 use Rattle.sets.proofs.Order.{collect_iff, ∩-iff, ∪-iff, ∖-iff, single_iff, subset_iff, subset_refl, subset_trans, proper_iff, proper_subset_lem, proper_trans}
 use Rattle.model.specs.Hierarchy.{Roles, candidate_count, permission_set, authorised_users, senior, immediately_senior, immediate_juniors, direct_permissions, direct_members}
 use Rattle.model.specs.Coverage.{covered}

@@ -6,7 +6,7 @@ use mathlib.Core.Logic.{◌↔◌, ◌⊎◌, ⊎_elim}
 use Prim.Native.Nat.{ℕ, ◌<◌}
 use Rattle.sets.specs.Sets.{has, ◌∪◌, ◌∖◌, single, subset}
 use Rattle.sets.proofs.Truth.{by_test, So-not, and_iff}
-use Rattle.sets.proofs.Items.{same_set}
+use Rattle.sets.proofs.Members.{same_set}
 use Rattle.sets.proofs.Order.{subset_iff, ∖-iff, ∪-iff, single_iff}
 use Rattle.model.specs.Hierarchy.{Roles, permission_set, authorised_users, senior, direct_permissions, direct_members}
 use Rattle.model.specs.Coverage.{grant, covered, all_covered, spared, strikable}

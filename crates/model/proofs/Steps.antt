@@ -11,7 +11,7 @@ use lib.Dec.{eqb}
 use lib.ListN.{length, get_or, length-append}
 use Rattle.sets.specs.Sets.{◌∪◌, ◌∖◌, single, collect}
 use Rattle.sets.proofs.Truth.{by_test, So-not, not-So, eqb_iff, when-true, when-false}
-use Rattle.sets.proofs.Items.{has-zero}
+use Rattle.sets.proofs.Members.{has-zero}
 use Rattle.sets.proofs.Order.{subset_refl, ∖-lt, ∪-lt, single_lt, collect_lt, collect_iff}
 use Rattle.model.specs.Lists.{rows_at}
 use Rattle.model.specs.Candidates.{candidates}

@@ -6,37 +6,30 @@ use mathlib.Core.Logic.{◌≢◌}
 use mathlib.Core.List.{List, [], ◌∷◌, ◌++◌}
 use Prim.Native.Nat.{ℕ, suc, ◌+◌, ◌-◌, ◌*◌, ◌/◌, ◌≤◌, ◌<◌}
 use native.Mathlib.Omega.{arith}
+use Rattle.std.specs.Prelude.{Result, Ok, Err}
 use lib.Dec.{eqb}
 use lib.ListN.{length, get_or, set, take, length-set}
 use lib.Seq.{take_all, take-suc-set}
 use Rattle.sets.proofs.Truth.{So-not, not-So, eqb_iff, when-true, when-false}
 use Rattle.model.specs.Lists.{rows_at}
-use Rattle.model.specs.Candidates.{candidates}
 use Rattle.model.specs.State.{fresh}
 use Rattle.model.specs.Record.{built}
 use Rattle.model.specs.Machine.{Call, reply}
 use Rattle.model.specs.Machine.Call.{strike, restore, eliminate, review}
-use Rattle.model.specs.Calls as calls
-use Rattle.model.specs.Calls.{Edited, edit, mine, mining_refusal}
+use Rattle.model.specs.Calls.{Mined, Edited, edit, mine, mining_refusal}
 use Rattle.model.specs.Claim.{words_after, replies_given}
 use Rattle.model.proofs.Steps.{mining_fit}
 use Rattle.model.proofs.Calls.{mine_code, mine_accepted, mine_refused}
 use Rattle.model.proofs.Claim.{built_claim}
 use Rattle.quality.specs.Numbers.{weights_of, tolerance_of}
 use Rattle.stores.specs.Stores.{put_at}
-use Rattle.panel.specs.declared.list.Outcome.{Outcome}
-use Rattle.panel.specs.declared.list.Served.TheVariants.{Unreadable, Refused, Mined}
-use Rattle.call_mine.specs.declared.MineAnswer.{MineAnswer}
-use Rattle.call_strike.specs.declared.StrikeAnswer.{StrikeAnswer}
-use Rattle.call_restore.specs.declared.RestoreAnswer.{RestoreAnswer}
-use Rattle.call_eliminate.specs.declared.EliminateAnswer.{EliminateAnswer}
-use Rattle.call_review.specs.declared.ReviewAnswer.{ReviewAnswer}
+use Rattle.refusals.specs.declared.Refusal.{Refusal}
+use Rattle.refusals.specs.Numbers.{number_of}
+use Rattle.refusals.proofs.Numbers.{some_number}
+use Rattle.panel.specs.declared.list.Done.{Done}
+use Rattle.panel.specs.declared.list.NotServed.TheVariants.{Unreadable, Refused}
 use Rattle.call_mine.specs.Results.{mine_result}
-use Rattle.call_strike.specs.Results.{strike_result}
-use Rattle.call_restore.specs.Results.{restore_result}
-use Rattle.call_eliminate.specs.Results.{eliminate_result}
-use Rattle.call_review.specs.Results.{review_result}
-use Rattle.panel.specs.Results.{outcome_result}
+use Rattle.panel.specs.Results.{done_result, done_words}
 use Rattle.panel.specs.Lists.{ServedAs}
 use Rattle.calls_list.specs.Encoding.{call_at, calls_from, calls_in, readable, answer_words}
 
@@ -68,29 +61,10 @@ module _ (ws : List ℕ) (i : ℕ) where
   call_review d d' d'' =
       when-false (eqb kind 0) _ _ (other_kind 0 d) ∙ when-false (eqb kind 1) _ _ (other_kind 1 d') ∙ when-false (eqb kind 2) _ _ (other_kind 2 d'')
 
--- the answer of each call as an outcome
-module _ (cs : List ℕ) (at : ℕ) (ws after : List ℕ) (r : Outcome) where
-  pub served_strike : (a : StrikeAnswer) → (r.code ≡ a.code) × (r.changed ≡ 0) × (r.examined ≡ 0) → strike_result a after ≡ edit ws (strike (get_or cs (at + 1) 0)) → get_or cs at 0 ≡ 0
-      → outcome_result r after ≡ edit ws (call_at cs at)
-  unfolding outcome_result strike_result
-  served_strike a e h k = (λ i. record { replied = reply (e.0 i) (e.1 i) (e.2 i); words = after }) ∙ h ∙ ap (edit ws) (sym (call_strike cs at k))
-
-  pub served_restore : (a : RestoreAnswer) → (r.code ≡ a.code) × (r.changed ≡ 0) × (r.examined ≡ 0) → restore_result a after ≡ edit ws (restore (get_or cs (at + 1) 0)) → get_or cs at 0 ≢ 0
-      → get_or cs at 0 ≡ 1 → outcome_result r after ≡ edit ws (call_at cs at)
-  unfolding outcome_result restore_result
-  served_restore a e h d k = (λ i. record { replied = reply (e.0 i) (e.1 i) (e.2 i); words = after }) ∙ h ∙ ap (edit ws) (sym (call_restore cs at d k))
-
-  pub served_eliminate : (a : EliminateAnswer) → (r.code ≡ a.code) × (r.changed ≡ a.removed) × (r.examined ≡ a.examined)
-      → eliminate_result a after ≡ edit ws (eliminate (weights_of (get_or cs (at + 1) 0) (get_or cs (at + 2) 0) (get_or cs (at + 3) 0) (get_or cs (at + 4) 0)) (tolerance_of (get_or cs (at + 5) 0) (get_or cs (at + 6) 0)))
-      → get_or cs at 0 ≢ 0 → get_or cs at 0 ≢ 1 → get_or cs at 0 ≡ 2 → outcome_result r after ≡ edit ws (call_at cs at)
-  unfolding outcome_result eliminate_result
-  served_eliminate a e h d d' k = (λ i. record { replied = reply (e.0 i) (e.1 i) (e.2 i); words = after }) ∙ h ∙ ap (edit ws) (sym (call_eliminate cs at d d' k))
-
-  pub served_review : (a : ReviewAnswer) → (r.code ≡ a.code) × (r.changed ≡ a.restored) × (r.examined ≡ a.examined)
-      → review_result a after ≡ edit ws (review (weights_of (get_or cs (at + 1) 0) (get_or cs (at + 2) 0) (get_or cs (at + 3) 0) (get_or cs (at + 4) 0)))
-      → get_or cs at 0 ≢ 0 → get_or cs at 0 ≢ 1 → get_or cs at 0 ≢ 2 → outcome_result r after ≡ edit ws (call_at cs at)
-  unfolding outcome_result review_result
-  served_review a e h d d' d'' = (λ i. record { replied = reply (e.0 i) (e.1 i) (e.2 i); words = after }) ∙ h ∙ ap (edit ws) (sym (call_review cs at d d' d''))
+-- three words to an answer
+pub three_words : (r : Result Done Refusal) → length (done_words r) ≡ 3
+three_words (Ok done) = refl
+three_words (Err r) = refl
 
 -- ---- the calls one after the other: `ws` and `out` are what the first i have left
 
@@ -124,28 +98,33 @@ put_take l i (v ∷ vs) h =
     ap (λ (k : ℕ). take k (put_at (set l i v) (suc i) vs)) e ∙ put_take (set l i v) (suc i) vs (omega arith)
     ∙ ap (λ (x : List ℕ). x ++ vs) (take-suc-set l i v (omega arith)) ∙ append_assoc (take i l) (v ∷ []) vs
 
-pub serving_more : (calls start : List ℕ) (n i : ℕ) (ws out after : List ℕ) (r : Outcome) → Serving calls start n i ws out → i < n → length out ≡ 3 * n
-    → outcome_result r after ≡ edit ws (call_at calls (7 * i)) → Serving calls start n (i + 1) after (put_at out (3 * i) (r.code ∷ r.changed ∷ r.examined ∷ []))
-unfolding outcome_result calls_from words_after replies_given answer_words reply
-serving_more calls start n i ws out after r p l size e =
+serving_more_by : (calls start : List ℕ) (n i : ℕ) (ws out after : List ℕ) (code changed examined : ℕ) → Serving calls start n i ws out → i < n → length out ≡ 3 * n
+    → record { replied = reply code changed examined; words = after } ≡ edit ws (call_at calls (7 * i)) → Serving calls start n (i + 1) after (put_at out (3 * i) (code ∷ changed ∷ examined ∷ []))
+unfolding calls_from words_after replies_given answer_words reply
+serving_more_by calls start n i ws out after code changed examined p l size e =
     let left : n - i ≡ suc (n - (i + 1)) = omega arith in
     let place : 7 * i + 7 ≡ 7 * (i + 1) = omega arith in
     let now-words : (edit ws (call_at calls (7 * i))).words ≡ after = ap (λ (o : Edited). o.words) (sym e) in
-    let now-given : (edit ws (call_at calls (7 * i))).replied ≡ reply r.code r.changed r.examined = ap (λ (o : Edited). o.replied) (sym e) in
+    let now-given : (edit ws (call_at calls (7 * i))).replied ≡ reply code changed examined = ap (λ (o : Edited). o.replied) (sym e) in
     let rest = calls_from calls (7 * (i + 1)) (n - (i + 1)) in
     let opened : calls_from calls (7 * i) (n - i) ≡ call_at calls (7 * i) ∷ rest =
     ap (λ (k : ℕ). calls_from calls (7 * i) k) left ∙ ap (λ (k : ℕ). call_at calls (7 * i) ∷ calls_from calls k (n - (i + 1))) place in
     let third : 3 * i + 3 ≡ 3 * (i + 1) = omega arith in
-    let vs = r.code ∷ r.changed ∷ r.examined ∷ [] in
+    let vs = code ∷ changed ∷ examined ∷ [] in
     let put : take (3 * (i + 1)) (put_at out (3 * i) vs) ≡ take (3 * i) out ++ vs = ap (λ (k : ℕ). take k (put_at out (3 * i) vs)) (sym third) ∙ put_take out (3 * i) vs (omega arith) in
     record {
       words = p.words ∙ ap (words_after ws) opened ∙ ap (λ (x : List ℕ). words_after x rest) now-words;
       answers = p.answers
           ∙ ap (λ (cs : List Call). take (3 * i) out ++ answer_words (replies_given ws cs)) opened
           ∙ (λ j. take (3 * i) out ++ ((now-given j).code ∷ (now-given j).changed ∷ (now-given j).examined ∷ answer_words (replies_given (now-words j) rest)))
-          ∙ sym (append_assoc (take (3 * i) out) (r.code ∷ r.changed ∷ r.examined ∷ []) (answer_words (replies_given after rest)))
+          ∙ sym (append_assoc (take (3 * i) out) (code ∷ changed ∷ examined ∷ []) (answer_words (replies_given after rest)))
           ∙ ap (λ (x : List ℕ). x ++ answer_words (replies_given after rest)) (sym put);
     }
+
+pub serving_more : (calls start : List ℕ) (n i : ℕ) (ws out after : List ℕ) (r : Result Done Refusal) → Serving calls start n i ws out → i < n → length out ≡ 3 * n
+    → done_result r after ≡ edit ws (call_at calls (7 * i)) → Serving calls start n (i + 1) after (put_at out (3 * i) (done_words r))
+serving_more calls start n i ws out after (Ok done) = serving_more_by calls start n i ws out after 0 done.changed done.examined
+serving_more calls start n i ws out after (Err r) = serving_more_by calls start n i ws out after (number_of r) 0 0
 
 pub serving_all : (calls start : List ℕ) (i : ℕ) (ws out : List ℕ) → Serving calls start (length calls / 7) i ws out → i ≡ length calls / 7 → length out ≡ 3 * (length calls / 7)
     → (ws ≡ words_after start (calls_in calls)) × (out ≡ answer_words (replies_given start (calls_in calls)))
@@ -157,27 +136,10 @@ serving_all calls start i ws out p e size =
       sym (p.answers ∙ ap (λ (k : ℕ). take (3 * i) out ++ answer_words (replies_given ws (calls_from calls (7 * i) k))) none ∙ append-nil (take (3 * i) out) ∙ take_all (3 * i) out (omega arith)),
     )
 
--- ---- mining
-
-module _ (n m : ℕ) (crew ws : List ℕ) (r : MineAnswer) (after : List ℕ) (e : mine_result r after ≡ mine n m crew ws) where
-  code_is : r.code ≡ mining_refusal n m crew ws
-  unfolding mine_result
-  code_is = ap (λ (x : calls.Mined). x.code) e ∙ mine_code n m crew ws
-
-  mine_left : mining_refusal n m crew ws ≢ 0 → after ≡ ws
-  unfolding mine_result
-  mine_left d = ap (λ (x : calls.Mined). x.words) (e ∙ mine_refused n m crew ws d)
-
-  mine_fresh : mining_refusal n m crew ws ≡ 0 → (after ≡ built (fresh n m (rows_at n crew 0))) × (r.candidates ≡ length (candidates (rows_at n crew 0)))
-  unfolding mine_result
-  mine_fresh z =
-      let f = e ∙ mine_accepted n m crew ws z in
-      (ap (λ (x : calls.Mined). x.words) f, ap (λ (x : calls.Mined). x.candidates) f)
-
 -- ---- the list as a whole
 
 module _ (n m : ℕ) (crew calls ws out : List ℕ) where
-  pub served_unreadable : readable calls out ≡ false → ServedAs n m crew calls ws out Unreadable ws out
+  pub served_unreadable : readable calls out ≡ false → ServedAs n m crew calls ws out (Err Unreadable) ws out
   served_unreadable f =
       record {
         unreadable = λ d. (refl, refl, refl);
@@ -185,30 +147,31 @@ module _ (n m : ℕ) (crew calls ws out : List ℕ) where
         mined = λ h. absurd (So-not f h);
       }
 
-  module _ (h : So (readable calls out)) (r : MineAnswer) (mid : List ℕ) (e : mine_result r mid ≡ mine n m crew ws) where
-    pub served_refused : r.code ≢ 0 → ServedAs n m crew calls ws out (Refused r.code) mid out
-    served_refused d =
-        let same = code_is n m crew ws r mid e in
+  module _ (h : So (readable calls out)) where
+    pub served_refused : (r : Refusal) (mid : List ℕ) → mine_result (Err r) mid ≡ mine n m crew ws → ServedAs n m crew calls ws out (Err (Refused r)) mid out
+    served_refused r mid e =
+        let same : number_of r ≡ mining_refusal n m crew ws = ap (λ (x : Mined). x.code) e ∙ mine_code n m crew ws in
         record {
           unreadable = λ x. absurd (x h);
-          refused = λ x y. (ap Refused same, mine_left n m crew ws r mid e y, refl);
-          mined = λ x y. absurd (d (same ∙ y));
+          refused = λ x y. (record { refusal = r; number = same; is = refl }, ap (λ (x : Mined). x.words) (e ∙ mine_refused n m crew ws y), refl);
+          mined = λ x y. absurd (some_number r (same ∙ y));
         }
 
-    pub served_mined : r.code ≡ 0 → (after out' : List ℕ) → (after ≡ words_after mid (calls_in calls)) × (out' ≡ answer_words (replies_given mid (calls_in calls)))
-        → ServedAs n m crew calls ws out (Mined r.candidates) after out'
-    served_mined z after out' done =
-        let none = sym (code_is n m crew ws r mid e) ∙ z in
-        let made = mine_fresh n m crew ws r mid e none in
+    pub served_mined : (c : ℕ) (mid : List ℕ) → mine_result (Ok c) mid ≡ mine n m crew ws → (after out' : List ℕ)
+        → (after ≡ words_after mid (calls_in calls)) × (out' ≡ answer_words (replies_given mid (calls_in calls))) → ServedAs n m crew calls ws out (Ok c) after out'
+    served_mined c mid e after out' done =
+        let none : mining_refusal n m crew ws ≡ 0 = sym (ap (λ (x : Mined). x.code) e ∙ mine_code n m crew ws) in
+        let made = e ∙ mine_accepted n m crew ws none in
         let st = fresh n m (rows_at n crew 0) in
+        let begun : mid ≡ built st = ap (λ (x : Mined). x.words) made in
         record {
           unreadable = λ x. absurd (x h);
           refused = λ x y. absurd (y none);
           mined = λ x y. (
-            ap Mined made.1,
+            ap Ok (ap (λ (x : Mined). x.candidates) made),
             record {
-              words = done.0 ∙ ap (λ (l : List ℕ). words_after l (calls_in calls)) made.0;
-              answers = done.1 ∙ ap (λ (l : List ℕ). answer_words (replies_given l (calls_in calls))) made.0;
+              words = done.0 ∙ ap (λ (l : List ℕ). words_after l (calls_in calls)) begun;
+              answers = done.1 ∙ ap (λ (l : List ℕ). answer_words (replies_given l (calls_in calls))) begun;
               condition3 = built_claim st (mining_fit n m crew ws none) (calls_in calls);
             },
           );

@@ -1,9 +1,28 @@
--- The answer of any call that edits, with the record as it leaves it, in the form in which the model gives it.
+-- A call of a list in the model's terms, and what it gives back, with the record as it leaves it, in the form in which the model says it.
 -- Assumes nothing.
-use Rattle.std.specs.Prelude.{List, ℕ}
+use Rattle.std.specs.Prelude.{List, [], ◌∷◌, ℕ, Result, Ok, Err}
+use Rattle.model.specs.Machine as model
 use Rattle.model.specs.Machine.{reply}
+use Rattle.model.specs.Machine.Call.{strike, restore, eliminate, review}
 use Rattle.model.specs.Calls.{Edited}
-use Rattle.panel.specs.declared.list.Outcome.{Outcome}
+use Rattle.quality.specs.Numbers.{weights_in, tolerance_in}
+use Rattle.refusals.specs.declared.Refusal.{Refusal}
+use Rattle.refusals.specs.Numbers.{number_of}
+use Rattle.panel.specs.declared.list.Call.{Call}
+use Rattle.panel.specs.declared.list.Call.TheVariants.{Strike, Restore, Eliminate, Review}
+use Rattle.panel.specs.declared.list.Done.{Done}
 
-unfoldable pub outcome_result : Outcome → List ℕ → Edited
-outcome_result r ws = record { replied = reply r.code r.changed r.examined; words = ws }
+abbrev pub call_of : Call → model.Call
+call_of (Strike k) = strike k
+call_of (Restore k) = restore k
+call_of (Eliminate w t) = eliminate (weights_in w) (tolerance_in t)
+call_of (Review w) = review (weights_in w)
+
+abbrev pub done_result : Result Done Refusal → List ℕ → Edited
+done_result (Ok done) ws = record { replied = reply 0 done.changed done.examined; words = ws }
+done_result (Err r) ws = record { replied = reply (number_of r) 0 0; words = ws }
+
+-- the three words of its answer
+abbrev pub done_words : Result Done Refusal → List ℕ
+done_words (Ok done) = 0 ∷ done.changed ∷ done.examined ∷ []
+done_words (Err r) = number_of r ∷ 0 ∷ 0 ∷ []

@@ -4,16 +4,12 @@
 mod exports;
 mod list;
 
-pub use call_eliminate::EliminateAnswer;
-pub use call_may::MayAnswer;
-pub use call_mine::MineAnswer;
-pub use call_quality::QualityAnswer;
-pub use call_restore::RestoreAnswer;
-pub use call_review::ReviewAnswer;
-pub use call_strike::StrikeAnswer;
-pub use call_write::CrewWritten;
+pub use call_eliminate::Eliminated;
+pub use call_review::Reviewed;
 pub use exports::{
     panel_eliminate, panel_may, panel_mine, panel_quality, panel_read_crew, panel_restore,
     panel_review, panel_strike, panel_write_crew,
 };
-pub use list::{Served, serve};
+pub use list::{NotServed, serve};
+pub use refusals::Refusal;
+pub use text_crew::CrewSize;

@@ -3,69 +3,125 @@ ghost use Rattle.std.specs.Prelude.{◌≡◌, ◌+◌, ◌≤◌, length};
 ghost use Rattle.std.proofs.Math.Bool.{So};
 ghost use Rattle.model.specs.Calls.{edit};
 ghost use Rattle.model.specs.Claim.{words_after, replies_given};
-ghost use Rattle.panel.specs.Results.{outcome_result};
 ghost use Rattle.calls_list.specs.Encoding.{call_at, calls_in, readable, answer_words};
+ghost use Rattle.panel.specs.Results.{call_of, done_result, done_words};
 ghost use Rattle.panel.specs.Lists.{ServedAs};
+ghost use Rattle.panel.specs.declared.list.NotServed.TheVariants.{Refused};
 
 use crate::exports::{panel_eliminate, panel_mine, panel_restore, panel_review, panel_strike};
 use calls_list::{ANSWER, CALL, can_read};
+use quality::{Tolerance, Weights};
+use refusals::Refusal;
 use tables::copy;
 
-// Whether a list was served: it can't be read; its crew list is refused with this number; or it was mined, into this many candidates.
+// Why a list was not served: it can't be read, or its crew list is refused.
 #[derive(Clone, Copy)]
-pub enum Served {
+pub enum NotServed {
     Unreadable,
-    Refused(u64),
-    Mined(u64),
+    Refused(Refusal),
 }
 
-// What one call answers.
+impl From<Refusal> for NotServed {
+    ghost from_gives = { λ refusal e. e ≡ Refused refusal };
+
+    fn from(refusal: Refusal) -> NotServed {
+        NotServed::Refused(refusal)
+    }
+}
+
+// One call of a list.
 #[derive(Clone, Copy)]
-pub struct Outcome {
-    pub code: u64,
-    pub changed: u64,
-    pub examined: u64,
+enum Call {
+    Strike(u64),
+    Restore(u64),
+    Eliminate(Weights, Tolerance),
+    Review(Weights),
 }
 
-// Makes the call that stands at a place of the list.
-fn serve_call(rec: &mut [u64], calls: &[u64], at: usize) -> Outcome
+// How many roles a call struck or restored in its passes, and how many it examined there.
+#[derive(Clone, Copy)]
+struct Done {
+    changed: u64,
+    examined: u64,
+}
+
+// The call that stands at a place of the list.
+fn read_call(calls: &[u64], at: usize) -> Call
     requires { at + 7 ≤ length calls.now }
-    ensures { outcome_result result rec.new ≡ edit rec.old (call_at calls.now at) }
+    ensures { call_of result ≡ call_at calls.now at }
 {
-    let kind = calls[at];
     let x = calls[at + 1];
-    if kind == 0 {
-        let a = panel_strike(rec, x);
-        return Outcome {
-            code: a.code,
-            changed: 0,
-            examined: 0,
-        };
+    let weights = Weights {
+        role: x,
+        member: calls[at + 2],
+        permission: calls[at + 3],
+        link: calls[at + 4],
+    };
+    match calls[at] {
+        0 => Call::Strike(x),
+        1 => Call::Restore(x),
+        2 => Call::Eliminate(
+            weights,
+            Tolerance {
+                numerator: calls[at + 5],
+                denominator: calls[at + 6],
+            },
+        ),
+        _ => Call::Review(weights),
     }
-    if kind == 1 {
-        let a = panel_restore(rec, x);
-        return Outcome {
-            code: a.code,
-            changed: 0,
-            examined: 0,
-        };
+}
+
+// Makes one call.
+fn serve_call(rec: &mut [u64], call: Call) -> Result<Done, Refusal>
+    ensures { done_result result rec.new ≡ edit rec.old (call_of call) }
+{
+    match call {
+        Call::Strike(k) => {
+            panel_strike(rec, k)?;
+            Ok(Done {
+                changed: 0,
+                examined: 0,
+            })
+        }
+        Call::Restore(k) => {
+            panel_restore(rec, k)?;
+            Ok(Done {
+                changed: 0,
+                examined: 0,
+            })
+        }
+        Call::Eliminate(w, t) => {
+            let done = panel_eliminate(
+                rec,
+                w.role,
+                w.member,
+                w.permission,
+                w.link,
+                t.numerator,
+                t.denominator,
+            )?;
+            Ok(Done {
+                changed: done.removed,
+                examined: done.examined,
+            })
+        }
+        Call::Review(w) => {
+            let done = panel_review(rec, w.role, w.member, w.permission, w.link)?;
+            Ok(Done {
+                changed: done.restored,
+                examined: done.examined,
+            })
+        }
     }
-    let w2 = calls[at + 2];
-    let w3 = calls[at + 3];
-    let w4 = calls[at + 4];
-    if kind == 2 {
-        let a = panel_eliminate(rec, x, w2, w3, w4, calls[at + 5], calls[at + 6]);
-        return Outcome {
-            code: a.code,
-            changed: a.removed,
-            examined: a.examined,
-        };
-    }
-    let a = panel_review(rec, x, w2, w3, w4);
-    Outcome {
-        code: a.code,
-        changed: a.restored,
-        examined: a.examined,
+}
+
+// The three words of its answer.
+fn answer_of(outcome: Result<Done, Refusal>) -> [u64; ANSWER]
+    ensures { result ≡ done_words outcome }
+{
+    match outcome {
+        Ok(done) => [0, done.changed, done.examined],
+        Err(refusal) => [refusal.number(), 0, 0],
     }
 }
 
@@ -75,17 +131,14 @@ fn serve_calls(rec: &mut [u64], calls: &[u64], out: &mut [u64])
     ensures rec_after { rec.new ≡ words_after rec.old (calls_in calls.now) }
     ensures out_after { out.new ≡ answer_words (replies_given rec.old (calls_in calls.now)) }
 {
-    let count = calls.len() / CALL;
-    let mut i = 0;
-    while i < count {
-        let a = serve_call(rec, calls, CALL * i);
-        copy(out, ANSWER * i, &[a.code, a.changed, a.examined]);
-        i += 1;
+    for i in 0..calls.len() / CALL {
+        let outcome = serve_call(rec, read_call(calls, CALL * i));
+        copy(out, ANSWER * i, &answer_of(outcome));
     }
 }
 
-// Mines a crew list and makes every call of a list on it. Seven words to a call: 0 and the number of a role to strike; 1 and that of one to
-// restore; 2, four weights, a and b to eliminate; 3 and four weights to review.
+// Mines a crew list and makes every call of a list on it: gives how many candidates there are. Seven words to a call: 0 and the number of a role
+// to strike; 1 and that of one to restore; 2, four weights, a and b to eliminate; 3 and four weights to review.
 pub fn serve(
     n: u64,
     m: u64,
@@ -93,16 +146,13 @@ pub fn serve(
     calls: &[u64],
     rec: &mut [u64],
     out: &mut [u64],
-) -> Served
+) -> Result<u64, NotServed>
     ensures { ServedAs n m crew.now calls.now rec.old out.old result rec.new out.new }
 {
     if !can_read(calls, out) {
-        return Served::Unreadable;
+        return Err(NotServed::Unreadable);
     }
-    let a = panel_mine(n, m, crew, rec);
-    if a.code != 0 {
-        return Served::Refused(a.code);
-    }
+    let candidates = panel_mine(n, m, crew, rec)?;
     serve_calls(rec, calls, out);
-    Served::Mined(a.candidates)
+    Ok(candidates)
 }

@@ -17,43 +17,27 @@ use Rattle.quality.specs.Numbers.{counts_in}
 use Rattle.tables.proofs.Parts.{set_at_part}
 use Rattle.model.proofs.Sound.{row_juniors, row_permissions, row_members}
 
--- the sets before place i are counted, and have n items together
-pub record Tallied (w : ℕ) (table : List ℕ) (c i n : ℕ) : Type 0 where
-  pub done : ℕ
-  pub place : i ≡ w * done
-  pub within : done ≤ c
-  pub sum : n ≡ total done (λ k. ones (set_at w table (w * k)))
-  pub small : n ≤ done * (64 * w)
+-- the first k sets are counted, and have n items together
+pub record Tallied (w : ℕ) (table : List ℕ) (k n : ℕ) : Type 0 where
+  pub sum : n ≡ total k (λ k. ones (set_at w table (w * k)))
+  pub small : n ≤ k * (64 * w)
 
-pub tallied_none : (w : ℕ) (table : List ℕ) (c : ℕ) → Tallied w table c 0 0
-tallied_none w table c =
-    record {
-      done = 0;
-      place = sym (mul-zero w);
-      within = omega arith;
-      sum = sym (total-zero 0 (λ k. ones (set_at w table (w * k))) (λ k l. absurd (not-suc-le-zero l)));
-      small = omega arith;
-    }
+pub tallied_none : (w : ℕ) (table : List ℕ) → Tallied w table 0 0
+tallied_none w table =
+    record { sum = sym (total-zero 0 (λ k. ones (set_at w table (w * k))) (λ k l. absurd (not-suc-le-zero l))); small = omega arith }
 
-pub tallied_more : (w : ℕ) (table : List ℕ) (c i n s r : ℕ) → Tallied w table c i n → i + w ≤ w * c → 0 < w
-    → s ≡ set_at w table i → s < 2 ^ (64 * w) → r ≡ ones s → Tallied w table c (i + w) (n + r)
-tallied_more w table c i n s r t room some es b er =
-    let k = t.done in
-    let same : r ≡ ones (set_at w table (w * k)) = er ∙ ap ones (es ∙ ap (set_at w table) t.place) in
+pub tallied_more : (w : ℕ) (table : List ℕ) (k n s r : ℕ) → Tallied w table k n → s ≡ set_at w table (w * k) → s < 2 ^ (64 * w) → r ≡ ones s → Tallied w table (k + 1) (n + r)
+tallied_more w table k n s r t es b er =
     let more = ones-le (64 * w) s b in
-    let low : k < c = either k c (λ l. l) (λ l. let m = mul-le-mul_left w l in let e = t.place in absurd (let z : ⊥ = omega arith in z)) in
-    record {
-      done = suc k;
-      place = ap (λ (x : ℕ). x + w) t.place ∙ sym (mul-suc w k);
-      within = low;
-      sum = ap₂ (λ (x y : ℕ). x + y) t.sum same ∙ add_comm _ _ ∙ sym (total-suc k (λ k. ones (set_at w table (w * k))));
+    let next : suc k ≡ k + 1 = omega arith in
+    rw (← next)
+    (record {
+      sum = ap₂ (λ (x y : ℕ). x + y) t.sum (er ∙ ap ones es) ∙ add_comm _ _ ∙ sym (total-suc k (λ k. ones (set_at w table (w * k))));
       small = let e : suc k * (64 * w) ≡ k * (64 * w) + 64 * w = suc-mul k (64 * w) in let f = t.small in omega arith;
-    }
+    })
 
-pub tallied_all : (w : ℕ) (table : List ℕ) (c i n : ℕ) → Tallied w table c i n → w * c < i + w → n ≡ total c (λ k. ones (set_at w table (w * k)))
-tallied_all w table c i n t over =
-    let e : t.done ≡ c = either t.done c (λ l. let m = mul-le-mul_left w l in let p = t.place in let q = mul-suc w t.done in absurd (let z : ⊥ = omega arith in z)) (λ l. let m = t.within in omega arith) in
-    rw e at t.sum
+pub tallied_few : (w : ℕ) (table : List ℕ) (k n : ℕ) → k ≤ 128 → Tallied w table k n → n ≤ 64 * w * 128
+tallied_few w table k n l t = let m = mul-le-mul_left (64 * w) l in let f = t.small in omega arith
 
 -- ---- the four counts
 

@@ -7,7 +7,7 @@ ghost use Rattle.model.specs.Record.{record_length, role_rows_of};
 ghost use Rattle.model.specs.Quality as model;
 ghost use Rattle.quality.specs.Numbers.{counts_in, most_direct_permissions, most_links, Few};
 
-use tables::{JUNIORS, LENGTH, MEMBERS, PERMISSIONS, STANDING, load128, load256};
+use tables::{JUNIORS, LENGTH, MEMBERS, PERMISSIONS, STANDING, load};
 
 #[derive(Clone, Copy)]
 pub struct Counts {
@@ -25,10 +25,10 @@ pub fn count_rows(rec: &[u64]) -> Counts
     ensures few { Few result }
 {
     let c = rec[2] as usize;
-    let roles = load128(rec, STANDING).count();
-    let members = count128(&rec[MEMBERS..JUNIORS], c);
-    let permissions = count256(&rec[PERMISSIONS..MEMBERS], c);
-    let links = count128(&rec[JUNIORS..LENGTH], c);
+    let roles = load::<2>(rec, STANDING).count();
+    let members = count_sets::<2>(&rec[MEMBERS..JUNIORS], c);
+    let permissions = count_sets::<4>(&rec[PERMISSIONS..MEMBERS], c);
+    let links = count_sets::<2>(&rec[JUNIORS..LENGTH], c);
     Counts {
         roles: roles as u64,
         members: members as u64,
@@ -38,34 +38,16 @@ pub fn count_rows(rec: &[u64]) -> Counts
 }
 
 // How many items the first c sets of a table have together.
-fn count128(table: &[u64], c: usize) -> usize
+fn count_sets<const WORDS: usize>(table: &[u64], c: usize) -> usize
+    requires width { WORDS ≤ 4 }
     requires c_bound { c ≤ 128 }
-    requires c_in_bounds { 2 * c ≤ length table.now }
-    ensures value { result ≡ total c (λ k. ones (set_at 2 table.now (2 * k))) }
-    ensures upper_bound { result ≤ most_links }
+    requires c_in_bounds { WORDS * c ≤ length table.now }
+    ensures value { result ≡ total c (λ k. ones (set_at WORDS table.now (WORDS * k))) }
+    ensures upper_bound { result ≤ 64 * WORDS * 128 }
 {
-    let end = 2 * c;
     let mut n = 0;
-    let mut i = 0;
-    while i + 2 <= end {
-        n += load128(table, i).count();
-        i += 2;
-    }
-    n
-}
-
-fn count256(table: &[u64], c: usize) -> usize
-    requires c_bound { c ≤ 128 }
-    requires c_in_bounds { 4 * c ≤ length table.now }
-    ensures value { result ≡ total c (λ k. ones (set_at 4 table.now (4 * k))) }
-    ensures upper_bound { result ≤ most_direct_permissions }
-{
-    let end = 4 * c;
-    let mut n = 0;
-    let mut i = 0;
-    while i + 4 <= end {
-        n += load256(table, i).count();
-        i += 4;
+    for k in 0..c {
+        n += load::<WORDS>(table, WORDS * k).count();
     }
     n
 }

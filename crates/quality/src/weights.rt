@@ -40,16 +40,7 @@ pub fn tolerance_allowed(t: Tolerance) -> bool
 {
     let a = t.numerator;
     let b = t.denominator;
-    if b < 1 {
-        return false;
-    }
-    if 1000 < b {
-        return false;
-    }
-    if a < b {
-        return false;
-    }
-    a <= 2 * b
+    1 <= b && b <= 1000 && b <= a && a <= 2 * b
 }
 
 // At most 1,000 · (128 + 16,384 + 32,768 + 16,384).

@@ -11,7 +11,7 @@ use lib.Pow.{pow_mono}
 use lib.Seq.{ext_get_or, get_or-take, get_or-drop, length-take-le}
 use Rattle.sets.specs.Words.{word}
 use Rattle.sets.proofs.Truth.{either}
-use Rattle.sets.proofs.Items.{digit}
+use Rattle.sets.proofs.Members.{digit}
 use Rattle.sets.proofs.Words.{word-zero}
 use Rattle.model.specs.Lists.{set_at, rows_at}
 use Rattle.model.specs.Candidates.{candidates}

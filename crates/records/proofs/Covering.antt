@@ -11,7 +11,7 @@ use lib.ListN.{get_or, take, drop}
 use Rattle.sets.specs.Truth.{◌and◌, ◌implies◌, all}
 use Rattle.sets.specs.Sets.{has, ◌∩◌}
 use Rattle.sets.proofs.Truth.{same_test, So-not, and_iff, implies_iff, all_iff, eqb_iff, find}
-use Rattle.sets.proofs.Items.{has-zero, item_below, empty_of}
+use Rattle.sets.proofs.Members.{has-zero, item_below, empty_of}
 use Rattle.sets.proofs.Order.{∩-iff, ∩-lt, subset_iff}
 use Rattle.model.specs.Lists.{set_at}
 use Rattle.model.specs.Hierarchy.{candidate_count, permission_set}

@@ -10,7 +10,7 @@ use lib.ListN.{length, get_or, get_or-eq_default}
 use Rattle.sets.specs.Truth.{all}
 use Rattle.sets.specs.Words.{word}
 use Rattle.sets.proofs.Truth.{all_iff, eqb_iff}
-use Rattle.sets.proofs.Items.{digit}
+use Rattle.sets.proofs.Members.{digit}
 use Rattle.model.specs.Lists.{elems, set_at, rows_at}
 use Rattle.model.specs.Candidates.{candidates}
 use Rattle.model.specs.Hierarchy.{candidate_count, permission_set}

@@ -13,7 +13,7 @@ use Rattle.sets.specs.Truth.{◌and◌}
 use Rattle.sets.specs.Sets.{has, subset, collect}
 use Rattle.sets.proofs.Truth.{same_test, So-not, not-So, and_iff, ltb_iff}
 use Rattle.sets.proofs.Order.{subset_iff, collect_iff}
-use Rattle.sets.proofs.Items.{same_set, item_below, below_of_items}
+use Rattle.sets.proofs.Members.{same_set, item_below, below_of_items}
 use Rattle.model.specs.Lists.{set_at, rows_at}
 use Rattle.model.specs.Candidates.{candidates}
 use Rattle.model.specs.Hierarchy.{candidate_count}

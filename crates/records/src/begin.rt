@@ -1,6 +1,6 @@
 // A record on its way: its header and crew rows, then its index and its rows.
 ghost use Rattle.std.specs.Prelude.{◌≡◌, [], ◌∷◌, ℕ, ◌*◌, ◌≤◌, length, get_or};
-ghost use Rattle.sets_128.specs.Held.{set128};
+ghost use Rattle.sets.specs.Held.{set_of};
 ghost use Rattle.sets.specs.Words.{word};
 ghost use Rattle.model.specs.Candidates.{candidates};
 ghost use Rattle.model.specs.Record.{record_length, crew_start, Limits};
@@ -15,12 +15,12 @@ ghost use Rattle.tables.specs.Tables.{table128_length};
 
 use indexes::fill_index;
 use rows::build_rows;
-use sets_128::Set128;
+use sets::Set128;
 use tables::{CREW, copy};
 
 fn write_header(rec: &mut [u64], n: u64, m: u64, c: u64, standing: Set128)
     requires { length rec.old ≡ record_length }
-    ensures { rec.new ≡ put_at rec.old 0 (n ∷ m ∷ c ∷ 0 ∷ word (set128 standing) 0 ∷ word (set128 standing) 1 ∷ 0 ∷ 0 ∷ []) }
+    ensures { rec.new ≡ put_at rec.old 0 (n ∷ m ∷ c ∷ 0 ∷ word (set_of standing) 0 ∷ word (set_of standing) 1 ∷ 0 ∷ 0 ∷ []) }
 {
     rec[0] = n;
     rec[1] = m;
@@ -37,7 +37,7 @@ pub fn begin_record(rec: &mut [u64], crew: &[u64], n: usize, m: u64, c: usize, s
     requires rec_len { length rec.old ≡ record_length }
     requires n_in_bounds { 4 * n ≤ length crew.now }
     requires n_bound { n ≤ 128 }
-    ensures { (st : State) → Described st crew.now n m c (set128 standing) → OnlyCandidates rec.old (candidates st.rows) → WithoutRows st rec.new }
+    ensures { (st : State) → Described st crew.now n m c (set_of standing) → OnlyCandidates rec.old (candidates st.rows) → WithoutRows st rec.new }
 {
     write_header(rec, n as u64, m, c as u64, standing);
     copy(rec, CREW, &crew[0..4 * n]);

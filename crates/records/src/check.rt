@@ -14,10 +14,10 @@ use crate::cover::all_covered;
 use crate::head::is_headed;
 use indexes::fill_index;
 use limits::{limits_kept, rows_within};
-use mining::{Mined, mine};
+use mining::mine;
 use rows_check::rows_match;
-use sets_128::Set128;
-use tables::{CREW, STANDING, load128};
+use sets::Set128;
+use tables::{CREW, STANDING, load};
 
 // Whether the header and the crew rows keep the limits, which are judged before any loop runs by them.
 fn within(rec: &[u64]) -> bool
@@ -26,10 +26,7 @@ fn within(rec: &[u64]) -> bool
 {
     let n = rec[0];
     let m = rec[1];
-    if !limits_kept(n, m) {
-        return false;
-    }
-    rows_within(rec, CREW, n as usize, m as usize)
+    limits_kept(n, m) && rows_within(rec, CREW, n as usize, m as usize)
 }
 
 // Whether a record that is in order before its rows covers its grants and has the rows of its building. The index and the immediate seniors made on
@@ -45,10 +42,7 @@ fn matches(rec: &[u64], index: &mut [u64], seniors: &mut [u64]) -> bool
     ensures ready { So (sound rec.now) → Ready (state_of rec.now) rec.now index.new seniors.new }
 {
     fill_index(rec, CREW, index);
-    if !all_covered(rec, index) {
-        return false;
-    }
-    rows_match(rec, index, seniors)
+    all_covered(rec, index) && rows_match(rec, index, seniors)
 }
 
 // Whether the record is sound. What is cheap to test comes first; no second record is built. Where it is sound, `index` and `seniors` hold what is
@@ -66,10 +60,10 @@ pub fn is_sound(rec: &[u64], index: &mut [u64], seniors: &mut [u64]) -> bool
     }
     let n = rec[0] as usize;
     let mut table = [0u64; 512];
-    let Mined::Count(c) = mine(rec, CREW, n, &mut table) else {
+    let Some(c) = mine(rec, CREW, n, &mut table) else {
         return false;
     };
-    if !load128(rec, STANDING).is_subset(Set128::below(c)) {
+    if !load(rec, STANDING).is_subset(Set128::below(c)) {
         return false;
     }
     if !is_headed(rec, &table, c) {

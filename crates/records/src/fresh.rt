@@ -9,7 +9,7 @@ ghost use Rattle.mining.specs.Mining.{Written};
 
 use crate::begin::{begin_record, complete_record};
 use indexes::INDEX_LENGTH;
-use sets_128::Set128;
+use sets::Set128;
 use tables::{SETS, clear, copy};
 
 // Writes the record of a crew list, with all its candidates standing; `table` has the c candidates. Whatever the record held is cleared first.

@@ -15,13 +15,7 @@ fn unused_zero(rec: &[u64], n: usize) -> bool
     requires n_bound { n ≤ 128 }
     ensures { So result ↔ UnusedZero rec.now n }
 {
-    if !zeros(rec, 3, 4) {
-        return false;
-    }
-    if !zeros(rec, 6, CREW) {
-        return false;
-    }
-    zeros(rec, CREW + 4 * n, SETS)
+    zeros(rec, 3, 4) && zeros(rec, 6, CREW) && zeros(rec, CREW + 4 * n, SETS)
 }
 
 // Whether all before the rows is what the record's own state gives. The c candidates of that state are in `table`.
@@ -31,12 +25,5 @@ pub fn is_headed(rec: &[u64], table: &[u64], c: usize) -> bool
     requires written { Written table.now c (candidates (state_of rec.now).rows) }
     ensures { So result ↔ Headed (state_of rec.now) rec.now }
 {
-    if rec[2] as usize != c {
-        return false;
-    }
-    let n = rec[0] as usize;
-    if !unused_zero(rec, n) {
-        return false;
-    }
-    equal_at(rec, SETS, table)
+    rec[2] as usize == c && unused_zero(rec, rec[0] as usize) && equal_at(rec, SETS, table)
 }

@@ -8,6 +8,7 @@ use Prim.Native.Nat.{ℕ, ◌*◌, ◌≤◌}
 use native.Mathlib.Omega.{arith}
 use lib.ListN.{length, take, drop}
 use lib.Seq.{take-append_seam, length-take-le}
+use Rattle.std.specs.Prelude.{Ok}
 use Rattle.sets.proofs.Truth.{equal_or}
 use Rattle.model.specs.Lists.{rows_at}
 use Rattle.model.specs.Candidates.{candidates}
@@ -24,7 +25,7 @@ use Rattle.model.proofs.Steps.{Fit, mining_fit, after_rows_lem}
 use Rattle.model.proofs.Calls.{mine_code, mine_accepted, edit_refused}
 use Rattle.model.proofs.Claim.{fit_sound, after_sound, after_state}
 use Rattle.text_lines.specs.Format.{crew_text}
-use Rattle.text_crew.specs.declared.CrewRead.{CrewRead}
+use Rattle.text_crew.specs.declared.CrewSize.{CrewSize}
 use Rattle.text_crew.specs.Reader.{buffer_length, ReadReply, read_result, read_crew, laid}
 use Rattle.text_crew.proofs.Laid.{length-laid}
 use Rattle.text_crew.proofs.Canonical.{read_back, words_hold}
@@ -107,12 +108,12 @@ module _ (text buffer rec out : List ℕ) (z : (read_crew text buffer).code ≡ 
   r = read_crew text buffer
 
   -- the answer as the code gives it
-  abbrev given : CrewRead
-  given = record { code = (read_crew text buffer).code; n = (read_crew text buffer).n; m = (read_crew text buffer).m }
+  abbrev given : CrewSize
+  given = record { n = (read_crew text buffer).n; m = (read_crew text buffer).m }
 
-  as_given : read_result given r.words ≡ r
+  as_given : read_result (Ok given) r.words ≡ r
   unfolding read_result
-  as_given = refl
+  as_given = λ i. record { code = sym z i; n = r.n; m = r.m; words = r.words }
 
   abbrev crew : List ℕ
   crew = take (4 * r.n) r.words
@@ -121,8 +122,8 @@ module _ (text buffer rec out : List ℕ) (z : (read_crew text buffer).code ≡ 
   mining_passes =
       (mining_iff r.n r.m crew rec).1 (
         er,
-        text_limits text buffer given r.words as_given z,
-        (text_size text buffer given r.words as_given z, text_within text buffer given r.words as_given z),
+        text_limits text buffer given r.words as_given,
+        (text_size text buffer given r.words as_given, text_within text buffer given r.words as_given),
         rw (taken_rows r.n r.words) few,
       )
 
@@ -137,7 +138,7 @@ module _ (text buffer rec out : List ℕ) (z : (read_crew text buffer).code ≡ 
   unfolding fresh
   text_mined =
       text_of (mined_as r rec).words (fresh r.n r.m (rows_at r.n crew 0)) (ap state_of words_mined ∙ state_back _ f.limits)
-      ∙ sym (text_canonical text buffer given r.words as_given z)
+      ∙ sym (text_canonical text buffer given r.words as_given)
 
   pub accepted_is_mined : (mined_as r rec).code ≡ 0
   unfolding mined_as

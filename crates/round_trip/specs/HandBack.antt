@@ -1,11 +1,10 @@
 -- What the program `handback` prints for a text. "every text that the reader accepts and whose list has at most 128 candidates comes back byte for byte":
 -- the text itself; or a refusal of the reader or of mining.
 -- Assumes nothing.
-use Rattle.std.specs.Prelude.{◌≡◌, List, ℕ, eqb, leb, length, replicate}
+use Rattle.std.specs.Prelude.{List, ℕ, eqb, leb, length, replicate}
 use Rattle.sets.specs.Truth.{when◌then◌else◌}
 use Rattle.model.specs.Lists.{rows_at}
 use Rattle.model.specs.Candidates.{candidates}
-use Rattle.stores.specs.Stores.{put_at}
 use Rattle.text_lines.specs.Format.{crew_text}
 use Rattle.text_crew.specs.Reader.{buffer_length, read_crew}
 use Rattle.text_roles.specs.Lines.{refused_text}
@@ -20,8 +19,3 @@ handed_back text =
 -- the same of a crew list that was read: its text, where it has at most 128 candidates
 unfoldable pub back_from : ℕ → ℕ → List ℕ → List ℕ
 back_from n m rows = when leb (length (candidates rows)) 128 then crew_text n m rows else refused_text 4
-
--- what comes back of the text is what stands first in the output
-pub record BackPut (text before after : List ℕ) (count : ℕ) : Type 0 where
-  pub size : count ≡ length (handed_back text)
-  pub bytes : after ≡ put_at before 0 (handed_back text)

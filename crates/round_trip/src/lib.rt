@@ -28,11 +28,10 @@ fn mine_back(n: u64, m: u64, crew: &[u64], out: &mut [u8]) -> usize
     ensures { (result ≡ length (back_from n m (rows_at n crew.now 0))) × (out.new ≡ put_at out.old 0 (back_from n m (rows_at n crew.now 0))) × (result ≤ longest_written) }
 {
     let mut rec = [0u64; LENGTH];
-    let mined = panel_mine(n, m, crew, &mut rec);
-    if mined.code != 0 {
-        return put_refusal(out, mined.code);
+    match panel_mine(n, m, crew, &mut rec) {
+        Ok(_) => panel_write_crew(&rec, out).unwrap(),
+        Err(refusal) => put_refusal(out, refusal.number()),
     }
-    panel_write_crew(&rec, out).length as usize
 }
 
 // Writes what comes back of this text; how many bytes that is.
@@ -40,9 +39,9 @@ pub fn hand_back(text: &[u8], out: &mut [u8; LONGEST_WRITTEN]) -> usize
     ensures { (result ≡ length (handed_back text.now)) × (out.new ≡ put_at out.old 0 (handed_back text.now)) × (result ≤ length out.new) }
 {
     let mut rows = [0u64; 512];
-    let read = read_crew(text, &mut rows);
-    if read.code != 0 {
-        return put_refusal(out, read.code);
-    }
-    mine_back(read.n, read.m, &rows[..4 * read.n as usize], out)
+    let size = match read_crew(text, &mut rows) {
+        Ok(size) => size,
+        Err(refusal) => return put_refusal(out, refusal.number()),
+    };
+    mine_back(size.n, size.m, &rows[..4 * size.n as usize], out)
 }

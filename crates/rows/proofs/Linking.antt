@@ -12,7 +12,7 @@ use lib.Pow.{pow_mono, pow_pos}
 use Rattle.sets.specs.Truth.{when◌then◌else◌}
 use Rattle.sets.specs.Sets.{has, ◌∪◌, ◌∖◌, single, collect}
 use Rattle.sets.proofs.Truth.{by_test, same_test, not-So, So-not, either, equal_or, when-true, when-false}
-use Rattle.sets.proofs.Items.{has-zero, has_above, same_below}
+use Rattle.sets.proofs.Members.{has-zero, has_above, same_below}
 use Rattle.sets.proofs.Order.{∪-iff, ∖-iff, single_iff, has_with, has-collect, collect_lt}
 use Rattle.sets.proofs.Words.{word-zero}
 use Rattle.model.specs.Lists.{set_at}

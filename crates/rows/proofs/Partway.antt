@@ -9,7 +9,7 @@ use lib.ListN.{length, get_or}
 use Rattle.sets.specs.Sets.{has, ◌∖◌, single}
 use Rattle.sets.specs.Words.{word}
 use Rattle.sets.proofs.Truth.{either}
-use Rattle.sets.proofs.Items.{digit}
+use Rattle.sets.proofs.Members.{digit}
 use Rattle.sets.proofs.Words.{word-zero}
 use Rattle.model.specs.Hierarchy.{immediate_juniors, direct_permissions, direct_members, building, RoleRows}
 use Rattle.model.specs.Record.{record_length, crew_start, sets_start, permissions_start, members_start, juniors_start, header_word, word_at, built}

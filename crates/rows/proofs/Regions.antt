@@ -13,7 +13,7 @@ use Rattle.sets.specs.Truth.{when◌then◌else◌}
 use Rattle.sets.specs.Sets.{has, ◌∖◌, single}
 use Rattle.sets.specs.Words.{word}
 use Rattle.sets.proofs.Truth.{by_test, same_test, not-So, So-not, either, equal_or, when-true, when-false}
-use Rattle.sets.proofs.Items.{has-zero}
+use Rattle.sets.proofs.Members.{has-zero}
 use Rattle.sets.proofs.Order.{∖-iff, single_iff}
 use Rattle.model.specs.Lists.{set_at}
 use Rattle.model.proofs.Lists.{set_at_words}

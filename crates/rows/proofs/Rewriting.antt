@@ -13,7 +13,7 @@ use lib.Pow.{pow_mono}
 use Rattle.sets.specs.Sets.{◌∖◌, single, collect}
 use Rattle.sets.specs.Words.{word}
 use Rattle.sets.proofs.Truth.{below_suc}
-use Rattle.sets.proofs.Items.{item_below, same_set, empty_of}
+use Rattle.sets.proofs.Members.{item_below, same_set, empty_of}
 use Rattle.sets.proofs.Order.{∖-iff, single_iff, collect_iff, collect-zero}
 use Rattle.sets.proofs.Words.{∖-zero}
 use Rattle.model.specs.Lists.{set_at}

@@ -10,7 +10,7 @@ ghost use Rattle.tables.specs.Tables.{table128_length};
 use crate::lower::fill_lowers;
 use crate::upper::fill_uppers;
 use columns::fill_columns;
-use tables::{JUNIORS, LENGTH, STANDING, load128};
+use tables::{JUNIORS, LENGTH, STANDING, load};
 
 // Into a record with zero rows, and a table of zeros. Where all roles are linked at once, the seniors are a transposition of the juniors.
 pub fn build_rows(rec: &mut [u64], index: &[u64], seniors: &mut [u64])
@@ -22,7 +22,7 @@ pub fn build_rows(rec: &mut [u64], index: &[u64], seniors: &mut [u64])
     ensures { (st : State) → Limits st → WithoutRows st rec.old → Indexed (roles_of st) index.now → (rec.new ≡ built st) × Linked rec.new seniors.new }
 {
     let c = rec[2] as usize;
-    let standing = load128(rec, STANDING);
+    let standing = load(rec, STANDING);
     fill_uppers(rec, index, standing, c);
     fill_columns(&rec[JUNIORS..LENGTH], c, c, seniors);
     fill_lowers(rec, index, seniors, standing, c);

@@ -1,6 +1,6 @@
 // Immediate juniors rewritten where the table of immediate seniors holds those of the record: it is altered with them.
 ghost use Rattle.std.specs.Prelude.{◌≡◌, ◌≢◌, ℕ, ◌<◌, length};
-ghost use Rattle.sets_128.specs.Held.{set128};
+ghost use Rattle.sets.specs.Held.{set_of};
 ghost use Rattle.sets.specs.Sets.{◌∪◌, ◌∖◌, single};
 ghost use Rattle.sets.specs.Truth.{when◌then◌else◌};
 ghost use Rattle.model.specs.Hierarchy.{RoleRows};
@@ -12,14 +12,13 @@ ghost use Rattle.rows.specs.Partway.{Partway, Target};
 ghost use Rattle.tables.specs.Tables.{table128_length};
 
 use crate::upper::rewrite_upper;
-use hierarchy::lowest_item;
-use sets_128::Set128;
-use tables::{JUNIORS, load128, store128};
+use sets::Set128;
+use tables::{JUNIORS, load, store};
 
 // The set with the item i, or without it.
 fn with_or_without(s: Set128, i: usize, with: bool) -> Set128
     requires { i < 128 }
-    ensures { set128 result ≡ (when with then set128 s ∪ single i else set128 s ∖ single i) }
+    ensures { set_of result ≡ (when with then set_of s ∪ single i else set_of s ∖ single i) }
 {
     if with {
         return s.insert(i);
@@ -32,14 +31,11 @@ fn with_or_without(s: Set128, i: usize, with: bool) -> Set128
 fn relink(seniors: &mut [u64], i: usize, old: Set128, new: Set128)
     requires seniors_len { length seniors.old ≡ table128_length }
     requires i_bound { i < 128 }
-    ensures { (f g : ℕ → ℕ) → Turned f seniors.old → set128 old ≡ f i → set128 new ≡ g i → ((a : ℕ) → a < 128 → a ≢ i → g a ≡ f a) → Turned g seniors.new }
+    ensures { (f g : ℕ → ℕ) → Turned f seniors.old → set_of old ≡ f i → set_of new ≡ g i → ((a : ℕ) → a < 128 → a ≢ i → g a ≡ f a) → Turned g seniors.new }
 {
-    let mut rest = old.difference(new).union(new.difference(old));
-    while !rest.is_empty() {
-        let j = lowest_item(rest);
-        let entry = load128(seniors, 2 * j);
-        store128(seniors, 2 * j, with_or_without(entry, i, new.contains(j)));
-        rest = rest.remove(j);
+    for j in old.difference(new).union(new.difference(old)).items() {
+        let entry = load(seniors, 2 * j);
+        store(seniors, 2 * j, with_or_without(entry, i, new.contains(j)));
     }
 }
 
@@ -49,11 +45,11 @@ fn relink_upper(rec: &mut [u64], index: &[u64], seniors: &mut [u64], standing: S
     requires index_len { length index.now ≡ index_length }
     requires seniors_len { length seniors.old ≡ table128_length }
     requires i_bound { i < 128 }
-    ensures { (old : RoleRows) (st : State) (s p t : ℕ) → Target st (set128 standing) index.now → Partway old st s p t rec.old → Linked rec.old seniors.old → Partway old st (s ∖ single i) (p ∖ single i) t rec.new × Linked rec.new seniors.new }
+    ensures { (old : RoleRows) (st : State) (s p t : ℕ) → Target st (set_of standing) index.now → Partway old st s p t rec.old → Linked rec.old seniors.old → Partway old st (s ∖ single i) (p ∖ single i) t rec.new × Linked rec.new seniors.new }
 {
-    let old = load128(rec, JUNIORS + 2 * i);
+    let old = load(rec, JUNIORS + 2 * i);
     rewrite_upper(rec, index, standing, i);
-    let new = load128(rec, JUNIORS + 2 * i);
+    let new = load(rec, JUNIORS + 2 * i);
     relink(seniors, i, old, new);
 }
 
@@ -68,12 +64,9 @@ pub fn relink_uppers(
     requires rec_len { length rec.old ≡ record_length }
     requires index_len { length index.now ≡ index_length }
     requires seniors_len { length seniors.old ≡ table128_length }
-    ensures { (old : RoleRows) (st : State) (t : ℕ) → Target st (set128 standing) index.now → Partway old st (set128 roles) (set128 roles) t rec.old → Linked rec.old seniors.old → Partway old st 0 0 t rec.new × Linked rec.new seniors.new }
+    ensures { (old : RoleRows) (st : State) (t : ℕ) → Target st (set_of standing) index.now → Partway old st (set_of roles) (set_of roles) t rec.old → Linked rec.old seniors.old → Partway old st 0 0 t rec.new × Linked rec.new seniors.new }
 {
-    let mut rest = roles;
-    while !rest.is_empty() {
-        let i = lowest_item(rest);
+    for i in roles.items() {
         relink_upper(rec, index, seniors, standing, i);
-        rest = rest.remove(i);
     }
 }

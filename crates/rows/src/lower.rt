@@ -1,6 +1,6 @@
 // Direct members: what a role has by those above it.
 ghost use Rattle.std.specs.Prelude.{◌≡◌, ℕ, ◌≤◌, ◌<◌, length};
-ghost use Rattle.sets_128.specs.Held.{set128};
+ghost use Rattle.sets.specs.Held.{set_of};
 ghost use Rattle.sets.specs.Sets.{◌∖◌, single};
 ghost use Rattle.model.specs.Hierarchy.{candidate_count, RoleRows};
 ghost use Rattle.model.specs.Record.{record_length};
@@ -10,10 +10,10 @@ ghost use Rattle.rows.specs.Linked.{Linked};
 ghost use Rattle.rows.specs.Partway.{Partway, Target};
 ghost use Rattle.tables.specs.Tables.{table128_length};
 
-use hierarchy::{lowest_item, members_of};
+use hierarchy::members_of;
 use indexes::{HOLDERS, USERS};
-use sets_128::Set128;
-use tables::{MEMBERS, load128, store128};
+use sets::Set128;
+use tables::{MEMBERS, load, store};
 
 // Those of role j. The juniors that the record holds, and with them the seniors, are those of the standing set already.
 fn rewrite_lower(rec: &mut [u64], index: &[u64], seniors: &[u64], standing: Set128, j: usize)
@@ -21,11 +21,11 @@ fn rewrite_lower(rec: &mut [u64], index: &[u64], seniors: &[u64], standing: Set1
     requires index_len { length index.now ≡ index_length }
     requires seniors_len { length seniors.now ≡ table128_length }
     requires j_bound { j < 128 }
-    ensures { (old : RoleRows) (st : State) (p t : ℕ) → Target st (set128 standing) index.now → Linked rec.old seniors.now → Partway old st 0 p t rec.old → Partway old st 0 p (t ∖ single j) rec.new }
+    ensures { (old : RoleRows) (st : State) (p t : ℕ) → Target st (set_of standing) index.now → Linked rec.old seniors.now → Partway old st 0 p t rec.old → Partway old st 0 p (t ∖ single j) rec.new }
 {
-    let above = load128(seniors, 2 * j);
+    let above = load(seniors, 2 * j);
     let members = members_of(&index[USERS..HOLDERS], above, standing, j);
-    store128(rec, MEMBERS + 2 * j, members);
+    store(rec, MEMBERS + 2 * j, members);
 }
 
 // Those of the roles in `roles`.
@@ -39,13 +39,10 @@ pub fn rewrite_lowers(
     requires rec_len { length rec.old ≡ record_length }
     requires index_len { length index.now ≡ index_length }
     requires seniors_len { length seniors.now ≡ table128_length }
-    ensures { (old : RoleRows) (st : State) (p : ℕ) → Target st (set128 standing) index.now → Linked rec.old seniors.now → Partway old st 0 p (set128 roles) rec.old → Partway old st 0 p 0 rec.new × Linked rec.new seniors.now }
+    ensures { (old : RoleRows) (st : State) (p : ℕ) → Target st (set_of standing) index.now → Linked rec.old seniors.now → Partway old st 0 p (set_of roles) rec.old → Partway old st 0 p 0 rec.new × Linked rec.new seniors.now }
 {
-    let mut rest = roles;
-    while !rest.is_empty() {
-        let j = lowest_item(rest);
+    for j in roles.items() {
         rewrite_lower(rec, index, seniors, standing, j);
-        rest = rest.remove(j);
     }
 }
 
@@ -55,11 +52,9 @@ pub fn fill_lowers(rec: &mut [u64], index: &[u64], seniors: &[u64], standing: Se
     requires index_len { length index.now ≡ index_length }
     requires seniors_len { length seniors.now ≡ table128_length }
     requires c_bound { c ≤ 128 }
-    ensures { (old : RoleRows) (st : State) (p : ℕ) → Target st (set128 standing) index.now → candidate_count (roles_of st) ≡ c → Linked rec.old seniors.now → Partway old st 0 p (set128 standing) rec.old → Partway old st 0 p 0 rec.new × Linked rec.new seniors.now }
+    ensures { (old : RoleRows) (st : State) (p : ℕ) → Target st (set_of standing) index.now → candidate_count (roles_of st) ≡ c → Linked rec.old seniors.now → Partway old st 0 p (set_of standing) rec.old → Partway old st 0 p 0 rec.new × Linked rec.new seniors.now }
 {
-    let mut j = 0;
-    while j < c {
+    for j in 0..c {
         rewrite_lower(rec, index, seniors, standing, j);
-        j += 1;
     }
 }

@@ -1,6 +1,6 @@
 // Immediate juniors and direct permissions: what a role has by those below it.
 ghost use Rattle.std.specs.Prelude.{◌≡◌, ℕ, ◌≤◌, ◌<◌, length};
-ghost use Rattle.sets_128.specs.Held.{set128};
+ghost use Rattle.sets.specs.Held.{set_of};
 ghost use Rattle.sets.specs.Sets.{◌∖◌, single};
 ghost use Rattle.model.specs.Hierarchy.{candidate_count, RoleRows};
 ghost use Rattle.model.specs.Record.{record_length};
@@ -10,20 +10,20 @@ ghost use Rattle.rows.specs.Partway.{Partway, Target};
 
 use hierarchy::{juniors_of, permissions_of};
 use indexes::{LOWER, ROLES};
-use sets_128::Set128;
-use tables::{JUNIORS, PERMISSIONS, SETS, store128, store256};
+use sets::Set128;
+use tables::{JUNIORS, PERMISSIONS, SETS, store};
 
 // Those of role i.
 pub fn rewrite_upper(rec: &mut [u64], index: &[u64], standing: Set128, i: usize)
     requires rec_len { length rec.old ≡ record_length }
     requires index_len { length index.now ≡ index_length }
     requires i_bound { i < 128 }
-    ensures { (old : RoleRows) (st : State) (s p t : ℕ) → Target st (set128 standing) index.now → Partway old st s p t rec.old → Partway old st (s ∖ single i) (p ∖ single i) t rec.new }
+    ensures { (old : RoleRows) (st : State) (s p t : ℕ) → Target st (set_of standing) index.now → Partway old st s p t rec.old → Partway old st (s ∖ single i) (p ∖ single i) t rec.new }
 {
     let juniors = juniors_of(&index[LOWER..ROLES], standing, i);
     let permissions = permissions_of(&rec[SETS..PERMISSIONS], juniors, standing, i);
-    store128(rec, JUNIORS + 2 * i, juniors);
-    store256(rec, PERMISSIONS + 4 * i, permissions);
+    store(rec, JUNIORS + 2 * i, juniors);
+    store(rec, PERMISSIONS + 4 * i, permissions);
 }
 
 // Those of all c candidates, for a record that is built afresh, by number: that is faster than taking them out of a set. The table of immediate
@@ -32,11 +32,9 @@ pub fn fill_uppers(rec: &mut [u64], index: &[u64], standing: Set128, c: usize)
     requires rec_len { length rec.old ≡ record_length }
     requires index_len { length index.now ≡ index_length }
     requires c_bound { c ≤ 128 }
-    ensures { (old : RoleRows) (st : State) (t : ℕ) → Target st (set128 standing) index.now → candidate_count (roles_of st) ≡ c → Partway old st (set128 standing) (set128 standing) t rec.old → Partway old st 0 0 t rec.new }
+    ensures { (old : RoleRows) (st : State) (t : ℕ) → Target st (set_of standing) index.now → candidate_count (roles_of st) ≡ c → Partway old st (set_of standing) (set_of standing) t rec.old → Partway old st 0 0 t rec.new }
 {
-    let mut k = 0;
-    while k < c {
+    for k in 0..c {
         rewrite_upper(rec, index, standing, k);
-        k += 1;
     }
 }

@@ -10,7 +10,7 @@ use lib.ListN.{length, get_or, take, drop, get_or-eq_default}
 use Rattle.sets.specs.Sets.{has, collect}
 use Rattle.sets.specs.Words.{word}
 use Rattle.sets.proofs.Truth.{So-not, either}
-use Rattle.sets.proofs.Items.{digit, has_above}
+use Rattle.sets.proofs.Members.{digit, has_above}
 use Rattle.sets.proofs.Words.{word_value, word-zero}
 use Rattle.model.specs.Lists.{elems, set_at}
 use Rattle.model.specs.Hierarchy.{Roles, candidate_count, immediate_juniors, direct_permissions, direct_members}

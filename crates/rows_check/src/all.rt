@@ -11,7 +11,7 @@ ghost use Rattle.tables.specs.Tables.{table128_length};
 use crate::lower::lowers_match;
 use crate::upper::uppers_match;
 use columns::fill_columns;
-use tables::{JUNIORS, LENGTH, MEMBERS, PERMISSIONS, STANDING, load128, zeros};
+use tables::{JUNIORS, LENGTH, MEMBERS, PERMISSIONS, STANDING, load, zeros};
 
 // Whether there is nothing behind the rows of c roles.
 fn none_behind(rec: &[u64], c: usize) -> bool
@@ -19,13 +19,9 @@ fn none_behind(rec: &[u64], c: usize) -> bool
     requires c_bound { c ≤ 128 }
     ensures { So result ↔ NoneBehind rec.now c }
 {
-    if !zeros(rec, PERMISSIONS + 4 * c, MEMBERS) {
-        return false;
-    }
-    if !zeros(rec, MEMBERS + 2 * c, JUNIORS) {
-        return false;
-    }
-    zeros(rec, JUNIORS + 2 * c, LENGTH)
+    zeros(rec, PERMISSIONS + 4 * c, MEMBERS)
+        && zeros(rec, MEMBERS + 2 * c, JUNIORS)
+        && zeros(rec, JUNIORS + 2 * c, LENGTH)
 }
 
 // Whether a record whose header, crew rows and candidates are in order is built afresh, row by row. Once its juniors are known to be right, the seniors
@@ -39,7 +35,7 @@ pub fn rows_match(rec: &[u64], index: &[u64], seniors: &mut [u64]) -> bool
     ensures { (st : State) → Limits st → Headed st rec.now → Indexed (roles_of st) index.now → (So result ↔ (rec.now ≡ built st)) × (So result → Linked rec.now seniors.new) }
 {
     let c = rec[2] as usize;
-    let standing = load128(rec, STANDING);
+    let standing = load(rec, STANDING);
     if !none_behind(rec, c) {
         return false;
     }

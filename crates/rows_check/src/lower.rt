@@ -1,7 +1,7 @@
 // Direct members.
 ghost use Rattle.std.specs.Prelude.{◌≡◌, ◌↔◌, ℕ, ◌≤◌, ◌<◌, length};
 ghost use Rattle.std.proofs.Math.Bool.{So};
-ghost use Rattle.sets_128.specs.Held.{set128};
+ghost use Rattle.sets.specs.Held.{set_of};
 ghost use Rattle.model.specs.Hierarchy.{immediate_juniors};
 ghost use Rattle.model.specs.Record.{record_length};
 ghost use Rattle.model.specs.State.{State, roles_of};
@@ -13,8 +13,8 @@ ghost use Rattle.tables.specs.Tables.{table128_length};
 
 use hierarchy::members_of;
 use indexes::{HOLDERS, USERS};
-use sets_128::Set128;
-use tables::{MEMBERS, load128};
+use sets::Set128;
+use tables::{MEMBERS, load};
 
 // Those of role j. The juniors that the record holds, and with them the seniors, are those of the standing set.
 fn lower_matches(rec: &[u64], index: &[u64], seniors: &[u64], standing: Set128, j: usize) -> bool
@@ -22,11 +22,11 @@ fn lower_matches(rec: &[u64], index: &[u64], seniors: &[u64], standing: Set128, 
     requires index_len { length index.now ≡ index_length }
     requires seniors_len { length seniors.now ≡ table128_length }
     requires j_bound { j < 128 }
-    ensures { (st : State) → Target st (set128 standing) index.now → Linked rec.now seniors.now → ((i : ℕ) → i < 128 → juniors_in rec.now i ≡ immediate_juniors (roles_of st) (set128 standing) i) → So result ↔ LowerHeld st rec.now j }
+    ensures { (st : State) → Target st (set_of standing) index.now → Linked rec.now seniors.now → ((i : ℕ) → i < 128 → juniors_in rec.now i ≡ immediate_juniors (roles_of st) (set_of standing) i) → So result ↔ LowerHeld st rec.now j }
 {
-    let above = load128(seniors, 2 * j);
+    let above = load(seniors, 2 * j);
     let members = members_of(&index[USERS..HOLDERS], above, standing, j);
-    load128(rec, MEMBERS + 2 * j).equals(members)
+    load(rec, MEMBERS + 2 * j) == members
 }
 
 // Those of all c candidates.
@@ -35,14 +35,7 @@ pub fn lowers_match(rec: &[u64], index: &[u64], seniors: &[u64], standing: Set12
     requires index_len { length index.now ≡ index_length }
     requires seniors_len { length seniors.now ≡ table128_length }
     requires c_bound { c ≤ 128 }
-    ensures { (st : State) → Target st (set128 standing) index.now → Linked rec.now seniors.now → ((i : ℕ) → i < 128 → juniors_in rec.now i ≡ immediate_juniors (roles_of st) (set128 standing) i) → So result ↔ ((k : ℕ) → k < c → LowerHeld st rec.now k) }
+    ensures { (st : State) → Target st (set_of standing) index.now → Linked rec.now seniors.now → ((i : ℕ) → i < 128 → juniors_in rec.now i ≡ immediate_juniors (roles_of st) (set_of standing) i) → So result ↔ ((k : ℕ) → k < c → LowerHeld st rec.now k) }
 {
-    let mut j = 0;
-    while j < c {
-        if !lower_matches(rec, index, seniors, standing, j) {
-            return false;
-        }
-        j += 1;
-    }
-    true
+    (0..c).all(|j| lower_matches(rec, index, seniors, standing, j))
 }

@@ -1,7 +1,7 @@
 // Immediate juniors and direct permissions.
 ghost use Rattle.std.specs.Prelude.{◌≡◌, ◌↔◌, ℕ, ◌≤◌, ◌<◌, length};
 ghost use Rattle.std.proofs.Math.Bool.{So};
-ghost use Rattle.sets_128.specs.Held.{set128};
+ghost use Rattle.sets.specs.Held.{set_of};
 ghost use Rattle.model.specs.Record.{record_length};
 ghost use Rattle.model.specs.State.{State};
 ghost use Rattle.indexes.specs.Index.{index_length};
@@ -10,22 +10,22 @@ ghost use Rattle.rows_check.specs.Held.{UpperHeld};
 
 use hierarchy::{juniors_of, permissions_of};
 use indexes::{LOWER, ROLES};
-use sets_128::Set128;
-use tables::{JUNIORS, PERMISSIONS, SETS, load128, load256};
+use sets::Set128;
+use tables::{JUNIORS, PERMISSIONS, SETS, load};
 
 // Those of role k.
 fn upper_matches(rec: &[u64], index: &[u64], standing: Set128, k: usize) -> bool
     requires rec_len { length rec.now ≡ record_length }
     requires index_len { length index.now ≡ index_length }
     requires k_bound { k < 128 }
-    ensures { (st : State) → Target st (set128 standing) index.now → Headed st rec.now → So result ↔ UpperHeld st rec.now k }
+    ensures { (st : State) → Target st (set_of standing) index.now → Headed st rec.now → So result ↔ UpperHeld st rec.now k }
 {
     let juniors = juniors_of(&index[LOWER..ROLES], standing, k);
-    if !load128(rec, JUNIORS + 2 * k).equals(juniors) {
+    if load(rec, JUNIORS + 2 * k) != juniors {
         return false;
     }
     let permissions = permissions_of(&rec[SETS..PERMISSIONS], juniors, standing, k);
-    load256(rec, PERMISSIONS + 4 * k).equals(permissions)
+    load(rec, PERMISSIONS + 4 * k) == permissions
 }
 
 // Those of all c candidates.
@@ -33,14 +33,7 @@ pub fn uppers_match(rec: &[u64], index: &[u64], standing: Set128, c: usize) -> b
     requires rec_len { length rec.now ≡ record_length }
     requires index_len { length index.now ≡ index_length }
     requires c_bound { c ≤ 128 }
-    ensures { (st : State) → Target st (set128 standing) index.now → Headed st rec.now → So result ↔ ((k : ℕ) → k < c → UpperHeld st rec.now k) }
+    ensures { (st : State) → Target st (set_of standing) index.now → Headed st rec.now → So result ↔ ((k : ℕ) → k < c → UpperHeld st rec.now k) }
 {
-    let mut k = 0;
-    while k < c {
-        if !upper_matches(rec, index, standing, k) {
-            return false;
-        }
-        k += 1;
-    }
-    true
+    (0..c).all(|k| upper_matches(rec, index, standing, k))
 }

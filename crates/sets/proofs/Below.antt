@@ -3,15 +3,17 @@
 use mathlib.Core.Path.{◌≡◌, refl, sym, ◌∙◌, ap}
 use mathlib.Core.List.{List, [], ◌∷◌}
 use Prim.Native.Nat.{ℕ, zero, suc, ◌+◌, ◌-◌, ◌*◌, ◌^◌, ◌≤◌, ◌<◌, min}
-use native.Mathlib.Nat.{zero-mul, mul-suc, pow-suc, sub-zero}
+use native.Mathlib.Nat.{zero-add, zero-mul, mul-suc, pow-suc, sub-zero}
 use native.Mathlib.Omega.{arith}
 use borrow.Author.Tests.{le-ltb, lt-ltb}
 use lib.Dec.{ltb}
 use lib.Pow.{pow_pos, ones_split}
+use lib.ListN.{length, get_or}
 use Rattle.sets.specs.Truth.{bit}
 use Rattle.sets.specs.Sets.{collect}
 use Rattle.sets.specs.Words.{value}
 use Rattle.sets.proofs.Truth.{either}
+use Rattle.sets.proofs.Words.{same_words}
 
 -- a mask of the items below n, for the items from `at` on
 abbrev pub mask_from : ℕ → ℕ → ℕ
@@ -52,5 +54,24 @@ collect-below (suc w) n =
     let q : min (suc w) n ≡ n = omega arith in
     rw (p, q, le-ltb w n l) (omega (arith, zero-mul (2 ^ w)))))
 
-pub below_masks : (k n : ℕ) → value (masks_from k 0 n) ≡ collect (64 * k) (λ i. ltb i n)
+length-masks : (k at n : ℕ) → length (masks_from k at n) ≡ k
+length-masks zero at n = refl
+length-masks (suc k) at n = ap suc (length-masks k (at + 64) n)
+
+get_masks : (k at n j : ℕ) → j < k → get_or (masks_from k at n) j 0 ≡ mask_from (at + 64 * j) n
+get_masks zero at n j l = absurd (omega arith)
+get_masks (suc k) at n zero l = ap (λ (x : ℕ). mask_from x n) (omega arith)
+get_masks (suc k) at n (suc j) l = get_masks k (at + 64) n j (omega arith) ∙ ap (λ (x : ℕ). mask_from x n) (omega arith)
+
+below_masks : (k n : ℕ) → value (masks_from k 0 n) ≡ collect (64 * k) (λ i. ltb i n)
 below_masks k n = value_masks k 0 n ∙ ap (λ (x : ℕ). 2 ^ min (64 * k) x - 1) (sub-zero n) ∙ sym (collect-below (64 * k) n)
+
+-- a place that is a number of the machine or its largest
+pub mask_capped : (j n : ℕ) → n < 2 ^ 64 → 2 ^ min 64 (n - min (j * 64) (2 ^ 64 - 1)) - 1 ≡ mask_from (64 * j) n
+mask_capped j n l = let e : n - min (j * 64) (2 ^ 64 - 1) ≡ n - 64 * j = omega arith in ap (λ (x : ℕ). 2 ^ min 64 x - 1) e
+
+-- the words of all items below n
+pub below_words : (k n : ℕ) (ws : List ℕ) → length ws ≡ k → ((j : ℕ) → j < k → get_or ws j 0 ≡ mask_from (64 * j) n) → value ws ≡ collect (64 * k) (λ i. ltb i n)
+below_words k n ws e h =
+    ap value (same_words ws (masks_from k 0 n) (e ∙ sym (length-masks k 0 n)) (λ j l. let q : j < k = rw e at l in h j q ∙ sym (get_masks k 0 n j q ∙ ap (λ (x : ℕ). mask_from x n) (zero-add (64 * j)))))
+    ∙ below_masks k n

@@ -10,49 +10,16 @@ use native.Mathlib.Omega.{arith}
 use borrow.Author.Tests.{ne_eqb, le-ltb}
 use lib.Dec.{eqb, ltb}
 use lib.Arith.{lt_of_le-ne}
-use lib.Bits.{bit_or, bit_xor, xor_self, and_le_l, and_le_r, or_add_and, xor_add_and}
+use lib.Bits.{bit_xor, xor_self, and_le_l, and_le_r, xor_add_and}
 use lib.Count.{ones, ones_cat}
 use lib.ListN.{length}
-use Rattle.sets.specs.Truth.{when◌then◌else◌, all}
+use Rattle.sets.specs.Truth.{when◌then◌else◌}
 use Rattle.sets.specs.Sets.{◌∩◌, ◌∖◌}
 use Rattle.sets.specs.Words.{value}
-use Rattle.sets.proofs.Truth.{same_test, all_of, all_is, all_more, eqb_iff, ltb_iff, equal_or, when-true, when-false}
+use Rattle.sets.proofs.Truth.{same_test, eqb_iff, ltb_iff, equal_or, when-true, when-false}
 use Rattle.sets.proofs.Words.{Words}
 
--- ---- all words at once
-
--- the words joined, from the first on
-abbrev pub joined : ℕ → List ℕ → ℕ
-joined x [] = x
-joined x (w ∷ ws) = joined (bit_or x w) ws
-
-abbrev pub join : List ℕ → ℕ
-join [] = 0
-join (w ∷ ws) = joined w ws
-
-or-none : (x y : ℕ) → (bit_or x y ≡ 0) ↔ ((x ≡ 0) × (y ≡ 0))
-or-none x y = (
-  λ (e : bit_or x y ≡ 0). omega (arith, or_add_and x y, and_le_l x y, and_le_r x y),
-  λ k. omega (arith, k.0, k.1, or_add_and x y),
-)
-
-joined-none : (x : ℕ) (ws : List ℕ) → (joined x ws ≡ 0) ↔ ((x ≡ 0) × (value ws ≡ 0))
-unfolding value
-joined-none x [] = (λ e. (e, refl), λ k. k.0)
-joined-none x (w ∷ ws) =
-    let r = joined-none (bit_or x w) ws in (
-      λ e. let k = r.0 e in let o = (or-none x w).0 k.0 in (o.0, omega (arith, k.1, o.1)),
-      λ k. let a : value ws ≡ 0 = omega (arith, k.1) in let b : w ≡ 0 = omega (arith, k.1) in r.1 ((or-none x w).1 (k.0, b), a),
-    )
-
-pub join-none : (ws : List ℕ) → (join ws ≡ 0) ↔ (value ws ≡ 0)
-unfolding value
-join-none [] = (λ e. e, λ e. e)
-join-none (w ∷ ws) =
-    let r = joined-none w ws in (
-      λ e. let k = r.0 e in omega (arith, k.0, k.1),
-      λ e. r.1 (omega (arith, e), omega (arith, e)),
-    )
+-- ---- equality
 
 pub test_same : (a b c d : ℕ) → (a ≡ b) ↔ (c ≡ d) → eqb a b ≡ eqb c d
 test_same a b c d k =
@@ -65,18 +32,6 @@ xor_none a b =
 pub ∖-none : (a b : ℕ) → (a ∖ b ≡ 0) ↔ (a ∩ b ≡ a)
 unfolding ◌∖◌
 ∖-none a b = let r = xor_none a (a ∩ b) in (λ e. sym (r.0 e), λ e. r.1 (sym e))
-
--- words compared one after the other: d has a bit wherever two of the first i differ, and x and y are the next
-pub differ_more : (d x y i : ℕ) (f : ℕ → Bool) → eqb d 0 ≡ all i f → eqb x y ≡ f i → eqb (bit_or d (bit_xor x y)) 0 ≡ all (i + 1) f
-differ_more d x y i f ed ef =
-    same_test (eqb (bit_or d (bit_xor x y)) 0) (all (i + 1) f)
-    (λ h.
-    let k = (or-none d (bit_xor x y)).0 ((eqb_iff (bit_or d (bit_xor x y)) 0).0 h) in
-    all_more i f (sym ed ∙ (eqb_iff d 0).1 k.0) (sym ef ∙ (eqb_iff x y).1 ((xor_none x y).0 k.1)))
-    (λ h.
-    let z : d ≡ 0 = (eqb_iff d 0).0 (ed ∙ all_of i f (λ k l. all_is (i + 1) f h k (omega arith))) in
-    let e : x ≡ y = (eqb_iff x y).0 (ef ∙ all_is (i + 1) f h i (omega arith)) in
-    (eqb_iff (bit_or d (bit_xor x y)) 0).1 ((or-none d (bit_xor x y)).1 (z, (xor_none x y).1 e)))
 
 -- ---- comparison, from the highest word down
 

@@ -13,7 +13,7 @@ use lib.Count.{ones, ones_cat}
 use Rattle.sets.specs.Truth.{◌and◌, ◌or◌, isnt, bit, total}
 use Rattle.sets.specs.Sets.{has, ◌∩◌, ◌∪◌, ◌∖◌, single, subset, proper_subset, collect}
 use Rattle.sets.proofs.Truth.{So-not, equal_or, below_suc, total_same}
-use Rattle.sets.proofs.Items.{digit, has_top, has-∩, has-∪, has-∖, has_low, empty_of, below_power}
+use Rattle.sets.proofs.Members.{digit, has_top, has-∩, has-∪, has-∖, has_low, empty_of, below_power}
 use Rattle.sets.proofs.Order.{∩-iff, single_iff, has_with, with_without, ∖-iff, ∖-lt, ∩-lt, ∪-lt, subset_iff, subset-∩-eq, ∩-comm, proper_iff, proper_lacks, has-collect, collect_lt}
 
 -- ---- sums

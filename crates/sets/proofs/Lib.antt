@@ -1,6 +1,6 @@
 pub mod Truth
 pub mod Telling
-pub mod Items
+pub mod Members
 pub mod Order
 pub mod Counts
 pub mod Words
@@ -8,3 +8,7 @@ pub mod Compare
 pub mod Below
 pub mod Extremes
 pub mod Written
+pub mod Made
+pub mod Held
+pub mod Walked
+pub mod Taken

@@ -14,7 +14,7 @@ use borrow.Author.Tests.{ne_eqb}
 use Rattle.sets.specs.Truth.{isnt, when◌then◌else◌, bit}
 use Rattle.sets.specs.Sets.{has, ◌∩◌, ◌∪◌, ◌∖◌, single, subset, proper_subset, collect}
 use Rattle.sets.proofs.Truth.{by_test, either, same_test, not-So, So-not, and_iff, or_iff, isnt_iff, eqb_iff, ltb_iff, below_suc, equal_or, when-true, when-false}
-use Rattle.sets.proofs.Items.{has_top, same_below, has-zero, has_first, has_rest, empty_of, has-∩, has-∪, has-∖, has_low, has_above, item_below, same_set, below_of_items, item_of}
+use Rattle.sets.proofs.Members.{has_top, same_below, has-zero, has_first, has_rest, empty_of, has-∩, has-∪, has-∖, has_low, has_above, item_below, same_set, below_of_items, item_of}
 
 -- ---- the operations as statements
 

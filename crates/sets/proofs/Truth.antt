@@ -201,8 +201,5 @@ all_more i f h t = all_of (i + 1) f (λ k l. below_suc k i (rw (add-one i) at l)
 pub all_fails : (n i : ℕ) (f : ℕ → Bool) → i < n → (So (f i) → ⊥) → false ≡ all n f
 all_fails n i f l d = sym (not-So (all n f) (λ h. d (all_is n f h i l)))
 
-pub all_through : (n i : ℕ) (f : ℕ → Bool) → n ≤ i → So (all i f) → true ≡ all n f
-all_through n i f l h = sym (all_of n f (λ k b. all_is i f h k (omega arith)))
-
 -- one `simp reflect at h` opens a test, one `simp reflect (..)` makes one
 pub ruleset reflect = (and_iff, or_iff, implies_iff, isnt_iff, any_iff, all_iff, none_iff, eqb_iff, ltb_iff, leb_iff)

@@ -10,12 +10,12 @@ use lib.Dec.{eqb}
 use lib.Arith.{digits_lt}
 use lib.Pow.{pow_pos, pow-add, shr-shr, shr_lt, high, low}
 use lib.Bits.{bit_and, bit_or, bit_xor, and_lt, and_block, or_block, xor_block, and_zero_r, or_zero_r, xor_zero_r}
-use lib.ListN.{length, get_or}
+use lib.ListN.{length, get_or, replicate}
 use lib.Seq.{ext_get_or}
 use Rattle.sets.specs.Truth.{◌and◌, isnt}
 use Rattle.sets.specs.Sets.{has, ◌∩◌, ◌∪◌, ◌∖◌, collect}
 use Rattle.sets.specs.Words.{value, word}
-use Rattle.sets.proofs.Items.{digit, has_first, has_rest, has_low, same_below, has-∩, has-∖}
+use Rattle.sets.proofs.Members.{digit, has_first, has_rest, has_low, same_below, has-∩, has-∖}
 use Rattle.sets.proofs.Order.{∖-lt, collect_parts}
 
 -- every element is a word
@@ -90,6 +90,13 @@ value_words (w ∷ ws) s h e =
     omega arith
 
 -- words are what their number says: lists of one length with the same number are the same
+-- a list of numbers is told by its length and what stands at its places
+pub same_words : (xs ys : List ℕ) → length xs ≡ length ys → ((k : ℕ) → k < length xs → get_or xs k 0 ≡ get_or ys k 0) → xs ≡ ys
+same_words [] [] e h = refl
+same_words [] (y ∷ ys) e h = absurd (omega arith)
+same_words (x ∷ xs) [] e h = absurd (omega arith)
+same_words (x ∷ xs) (y ∷ ys) e h = rw (h 0 (omega arith), same_words xs ys (omega arith) (λ k l. h (suc k) (omega arith))) refl
+
 pub value_same : (xs ys : List ℕ) → Words xs → Words ys → length xs ≡ length ys → value xs ≡ value ys → xs ≡ ys
 value_same xs ys hx hy l e =
     ext_get_or 0 xs ys l (λ j b. sym (word_value xs j hx) ∙ ap (λ (s : ℕ). word s j) e ∙ word_value ys j hy)
@@ -98,6 +105,11 @@ pub value_zeros : (ws : List ℕ) → ((j : ℕ) → get_or ws j 0 ≡ 0) → va
 unfolding value
 value_zeros [] h = refl
 value_zeros (w ∷ ws) h = let r = value_zeros ws (λ j. h (suc j)) in let z = h 0 in omega arith
+
+pub value_blank : (n : ℕ) → value (replicate {A = ℕ} n 0) ≡ 0
+unfolding value
+value_blank zero = refl
+value_blank (suc n) = rw (value_blank n) refl
 
 -- ---- item i is bit i mod 64 of word i / 64
 
@@ -142,9 +154,6 @@ wordwise-∩ = (and_zero_r 0, and_block 64)
 pub wordwise-∪ : Wordwise bit_or ◌∪◌
 unfolding ◌∪◌
 wordwise-∪ = (or_zero_r 0, or_block 64)
-
-pub wordwise_xor : Wordwise bit_xor bit_xor
-wordwise_xor = (xor_zero_r 0, xor_block 64)
 
 -- the bits of a number of k bits turned over
 has_turned : (k b i : ℕ) → b < 2 ^ k → i < k → has (2 ^ k - 1 - b) i ≡ isnt (has b i)

@@ -1,31 +1,29 @@
 -- The laws of Words, Compare, Below and Extremes as the code writes them out, for any number n of words. A method cites one at its own n.
 -- Assumes nothing.
 use mathlib.Core.Path.{◌≡◌, refl, sym, ◌∙◌, ap}
-use mathlib.Core.Bool.{Bool, true, false, ◌&&◌, ◌||◌, not}
-use mathlib.Core.List.{List, [], ◌∷◌}
-use Prim.Native.Nat.{ℕ, zero, suc, ◌+◌, ◌-◌, ◌*◌, ◌/◌, ◌%◌, ◌^◌, ◌≤◌, ◌<◌, min}
-use native.Mathlib.Nat.{suc_inj, zero-add, add-zero, one-mul, zero-mul, mod-eq_of_lt, mul-mod_left, not-suc-le-zero, le_of_suc-le-suc}
+use mathlib.Core.Bool.{Bool, true, false, So, ◌&&◌, ◌||◌, not}
+use mathlib.Core.List.{List}
+use Prim.Native.Nat.{ℕ, ◌+◌, ◌-◌, ◌*◌, ◌/◌, ◌%◌, ◌^◌, ◌≤◌, ◌<◌, min}
+use native.Mathlib.Nat.{one-mul, zero-mul, mod-eq_of_lt, mul-mod_left}
 use native.Mathlib.Omega.{arith}
 use borrow.Author.Rules.{rules}
 use borrow.Author.Tests.{lt-ltb, le-ltb, ltb-false, eq-eqb, ne_eqb}
 use mir.Syntax.{w64}
 use mir.Val.{Fits, bool_byte}
 use lib.Dec.{eqb, ltb}
+use lib.Pointwise.{pointwise}
 use lib.Pow.{pow_pos, pow-lt, shl-shr}
-use lib.Bits.{bit_and, bit_or, bit_xor, and_mask, or_zero_r}
-use lib.Count.{ones}
+use Rattle.std.specs.Cmp.Lexicographic.{same_text, other_text}
+use lib.Bits.{bit_and, bit_or, and_mask, or_zero_r}
 use lib.ListN.{length, get_or, get_or-eq_default}
-use Rattle.sets.specs.declared.item.Item.TheVariants.{Nothing}
 use Rattle.sets.specs.Truth.{◌and◌, ◌or◌, isnt, when◌then◌else◌}
 use Rattle.sets.specs.Sets.{has, ◌∩◌, ◌∪◌, ◌∖◌, single, subset, proper_subset}
 use Rattle.sets.specs.Words.{value, word}
-use Rattle.sets.specs.Extremes.{lowest, highest}
 use Rattle.sets.proofs.Truth.{by_test, either, when-true, when-false}
-use Rattle.sets.proofs.Items.{same_below, has-zero, has-∩, has-∪, has-∖, has_low, has_above}
+use Rattle.sets.proofs.Members.{same_below, has-zero, has-∩, has-∪, has-∖, has_low, has_above}
 use Rattle.sets.proofs.Order.{has-single, single_lt, ∪-zero, without_absent}
-use Rattle.sets.proofs.Words.{Words, Wordwise, value_lt, word_lt, word-zero, word_value, value_words, has_shift, has_word, zip, value-zip, wordwise-∩, wordwise-∪, wordwise-∖, wordwise_xor, ∖-zero, masked, and_turned}
-use Rattle.sets.proofs.Compare.{join, join-none, test_same, xor_none, ∖-none, less_from, value-less, less_none, count, value-count}
-use Rattle.sets.proofs.Extremes.{lowest_from, highest_from, value-lowest, value-highest}
+use Rattle.sets.proofs.Words.{Words, value_lt, value_same, word_lt, word-zero, word_value, value_words, has_shift, has_word, ∖-zero, masked, and_turned}
+use Rattle.sets.proofs.Compare.{test_same, ∖-none}
 
 -- a list of n words
 abbrev pub Arr : ℕ → List ℕ → Type 0
@@ -36,21 +34,6 @@ fits_lt f = f.fits
 
 -- `search words` finds that a struct's list is an `Arr`, from what owning the struct says
 pub ruleset words = (rules, fits_lt)
-
--- the n elements from place i on, written out
-abbrev pub elements_from : ℕ → ℕ → List ℕ → List ℕ
-elements_from i zero ws = []
-elements_from i (suc n) ws = get_or ws i 0 ∷ elements_from (suc i) n ws
-
-elems_rest : (i n w : ℕ) (ws : List ℕ) → elements_from (suc i) n (w ∷ ws) ≡ elements_from i n ws
-elems_rest i zero w ws = refl
-elems_rest i (suc n) w ws = ap (λ (l : List ℕ). get_or ws i 0 ∷ l) (elems_rest (suc i) n w ws)
-
-elems-all : (n : ℕ) (ws : List ℕ) → length ws ≡ n → elements_from 0 n ws ≡ ws
-elems-all zero [] e = refl
-elems-all zero (w ∷ ws) e = absurd (omega arith)
-elems-all (suc n) [] e = absurd (omega arith)
-elems-all (suc n) (w ∷ ws) e = ap (λ (l : List ℕ). w ∷ l) (elems_rest 0 n w ws ∙ elems-all n ws (suc_inj e))
 
 -- ---- one set
 
@@ -64,44 +47,14 @@ module _ (n : ℕ) (ws : List ℕ) (a : Arr n ws) where
   pub word_past : (j : ℕ) → n ≤ j → 0 ≡ word (value ws) j
   word_past j l = sym (get_or-eq_default ws 0 (rw a.0 l)) ∙ word_in j
 
-  pub empty_words : eqb (join (elements_from 0 n ws)) 0 ≡ eqb (value ws) 0
-  empty_words = rw (elems-all n ws a.0) (test_same (join ws) 0 (value ws) 0 (join-none ws))
-
-  pub count_words : count (elements_from 0 n ws) ≡ ones (value ws)
-  count_words = rw (elems-all n ws a.0) (value-count ws a.1)
-
-  pub lowest_words : lowest_from 0 (elements_from 0 n ws) ≡ lowest (64 * n) (value ws)
-  lowest_words = rw (elems-all n ws a.0) (value-lowest ws a.1 ∙ ap (λ (k : ℕ). lowest (64 * k) (value ws)) a.0)
-
-  pub highest_words : highest_from 0 Nothing (elements_from 0 n ws) ≡ highest (64 * n) (value ws)
-  highest_words = rw (elems-all n ws a.0) (value-highest ws a.1 ∙ ap (λ (k : ℕ). highest (64 * k) (value ws)) a.0)
-
 -- ---- two sets
 
-module _ (n : ℕ) (xs ys : List ℕ) (a : Arr n xs) (b : Arr n ys) where
-  zip_words : (f g : ℕ → ℕ → ℕ) → Wordwise f g → value (zip f (elements_from 0 n xs) (elements_from 0 n ys)) ≡ g (value xs) (value ys)
-  zip_words f g k = rw (elems-all n xs a.0, elems-all n ys b.0) (value-zip f g k xs ys a.1 b.1 (a.0 ∙ sym b.0))
-
-  pub and_words : value (zip bit_and (elements_from 0 n xs) (elements_from 0 n ys)) ≡ value xs ∩ value ys
-  and_words = zip_words bit_and ◌∩◌ wordwise-∩
-
-  pub or_words : value (zip bit_or (elements_from 0 n xs) (elements_from 0 n ys)) ≡ value xs ∪ value ys
-  or_words = zip_words bit_or ◌∪◌ wordwise-∪
-
-  pub without_words : value (zip masked (elements_from 0 n xs) (elements_from 0 n ys)) ≡ value xs ∖ value ys
-  without_words = zip_words masked ◌∖◌ wordwise-∖
-
-  pub equal_words : eqb (join (zip bit_xor (elements_from 0 n xs) (elements_from 0 n ys))) 0 ≡ eqb (value xs) (value ys)
-  equal_words =
-      let r = join-none (zip bit_xor (elements_from 0 n xs) (elements_from 0 n ys)) in
-      let z = zip_words bit_xor bit_xor wordwise_xor in
-      let e = xor_none (value xs) (value ys) in
-      test_same (join (zip bit_xor (elements_from 0 n xs) (elements_from 0 n ys))) 0 (value xs) (value ys) (λ h. e.0 (sym z ∙ r.0 h), λ h. r.1 (z ∙ e.1 h))
-
-  pub less_words : less_from false (elements_from 0 n xs) (elements_from 0 n ys) ≡ ltb (value xs) (value ys)
-  less_words =
-      rw (elems-all n xs a.0, elems-all n ys b.0)
-      (value-less false xs ys a.1 b.1 (a.0 ∙ sym b.0) ∙ less_none (value xs) (value ys))
+-- the words tell whether two sets are equal
+pub same_words_test : (xs ys : List ℕ) → Words xs → Words ys → length xs ≡ length ys → pointwise eqb xs ys ≡ eqb (value xs) (value ys)
+same_words_test xs ys a b e =
+    by_test (pointwise eqb xs ys)
+    (λ (t : So (pointwise eqb xs ys)). t ∙ sym (eq-eqb (value xs) (value ys) (ap value (same_text xs ys (sym t)))))
+    (λ (f : pointwise eqb xs ys ≡ false). f ∙ sym (ne_eqb (value xs) (value ys) (λ v. other_text xs ys (sym f) (value_same xs ys a b e v))))
 
 -- ---- one item
 
@@ -168,30 +121,16 @@ bit_elsewhere i j d =
     has-zero b ∙ sym (ne_eqb i (64 * j + b) (λ (e : i ≡ 64 * j + b). d (omega arith)))
     ∙ sym (has-single i (64 * j + b)) ∙ sym (has_in_word (single i) j b l))
 
--- its n words from word j on, written out
-abbrev pub spread : ℕ → ℕ → ℕ → List ℕ
-spread j zero i = []
-spread j (suc n) i = word (single i) j ∷ spread (suc j) n i
-
-length-spread : (j n i : ℕ) → length (spread j n i) ≡ n
-length-spread j zero i = refl
-length-spread j (suc n) i = ap suc (length-spread (suc j) n i)
-
-get_d_spread : (j n i q : ℕ) → q < n → get_or (spread j n i) q 0 ≡ word (single i) (j + q)
-get_d_spread j zero i q l = absurd (not-suc-le-zero l)
-get_d_spread j (suc n) i zero l = ap (word (single i)) (sym (add-zero j))
-get_d_spread j (suc n) i (suc q) l = get_d_spread (suc j) n i q (le_of_suc-le-suc l) ∙ ap (word (single i)) (let e : suc j + q ≡ j + suc q = omega arith in e)
-
-pub only_words : (n i : ℕ) → value (spread 0 n i) ≡ (when ltb i (64 * n) then single i else 0)
-only_words n i =
-    let e = length-spread 0 n i in
+-- the words of the one item, if it is below the width
+pub only_words : (n i : ℕ) (ws : List ℕ) → length ws ≡ n → ((j : ℕ) → j < n → get_or ws j 0 ≡ word (single i) j) → value ws ≡ (when ltb i (64 * n) then single i else 0)
+only_words n i ws e h =
     either i (64 * n)
     (λ l.
-    value_words (spread 0 n i) (single i) (rw e (single_lt (64 * n) i l)) (λ q b. get_d_spread 0 n i q (rw e at b) ∙ ap (word (single i)) (zero-add q))
+    value_words ws (single i) (rw e (single_lt (64 * n) i l)) (λ q b. h q (rw e at b))
     ∙ sym (when-true (ltb i (64 * n)) (single i) 0 (lt-ltb i (64 * n) l)))
     (λ l.
-    value_words (spread 0 n i) 0 (pow_pos (64 * length (spread 0 n i)))
-    (λ q b. get_d_spread 0 n i q (rw e at b) ∙ ap (word (single i)) (zero-add q) ∙ sym (bit_elsewhere i q (λ (h : i / 64 ≡ q). let b' : q < n = rw e at b in omega arith)) ∙ sym (word-zero q))
+    value_words ws 0 (pow_pos (64 * length ws))
+    (λ q b. h q (rw e at b) ∙ sym (bit_elsewhere i q (λ (d : i / 64 ≡ q). let b' : q < n = rw e at b in omega arith)) ∙ sym (word-zero q))
     ∙ sym (when-false (ltb i (64 * n)) (single i) 0 (le-ltb i (64 * n) l)))
 
 -- put in and taken out

@@ -1,30 +1,28 @@
--- The lowest and the highest item of a set. `Item` is the code's: `At i`, or `Nothing`.
+-- The lowest and the highest item of a set, where there is one.
 -- Assumes nothing.
 use Rattle.std.proofs.Math.Bool.{So}
-use Rattle.std.specs.Prelude.{ℕ, zero, suc, ◌≤◌, ◌<◌}
-use Rattle.sets.specs.declared.item.Item.{Item}
-use Rattle.sets.specs.declared.item.Item.TheVariants.{At, Nothing}
+use Rattle.std.specs.Prelude.{ℕ, zero, suc, ◌≤◌, ◌<◌, Option, Some, None}
 use Rattle.sets.specs.Truth.{when◌then◌else◌}
 use Rattle.sets.specs.Sets.{has}
 
 infixl 20 ◌otherwise◌
 -- the first, or the second where the first is nothing
-unfoldable pub ◌otherwise◌ : Item → Item → Item
-At i otherwise b = At i
-Nothing otherwise b = b
+unfoldable pub ◌otherwise◌ : Option ℕ → Option ℕ → Option ℕ
+Some i otherwise b = Some i
+None otherwise b = b
 
 -- n where it is an item of s
-unfoldable pub item_at : ℕ → ℕ → Item
-item_at s n = when has s n then At n else Nothing
+unfoldable pub item_at : ℕ → ℕ → Option ℕ
+item_at s n = when has s n then Some n else None
 
 -- of the items of s below n, the lowest
-unfoldable pub lowest : ℕ → ℕ → Item
-lowest zero s = Nothing
+unfoldable pub lowest : ℕ → ℕ → Option ℕ
+lowest zero s = None
 lowest (suc n) s = lowest n s otherwise item_at s n
 
 -- of the items of s below n, the highest
-unfoldable pub highest : ℕ → ℕ → Item
-highest zero s = Nothing
+unfoldable pub highest : ℕ → ℕ → Option ℕ
+highest zero s = None
 highest (suc n) s = item_at s n otherwise highest n s
 
 -- ---- in plain words, of a set within n items

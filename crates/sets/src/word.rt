@@ -1,11 +1,9 @@
 // What a set of any width does with one of its words.
-ghost use Rattle.std.specs.Prelude.{◌≡◌, ◌+◌, ◌-◌, ◌/◌, ◌%◌, ◌^◌, ◌≤◌, ◌<◌, min, eqb, ltb};
+ghost use Rattle.std.specs.Prelude.{Some, ◌≡◌, ◌+◌, ◌-◌, ◌/◌, ◌%◌, ◌^◌, ◌≤◌, ◌<◌, min, eqb, ltb};
 ghost use Rattle.std.specs.Int.Count.{ones, count_trailing_zeros, count_leading_zeros};
 ghost use Rattle.sets.specs.Sets.{◌∪◌, single};
 ghost use Rattle.sets.specs.Truth.{when◌then◌else◌};
 ghost use Rattle.sets.specs.Words.{word};
-
-use crate::item::Item;
 
 // The word that holds an item, and the item's bit in it.
 #[derive(Clone, Copy)]
@@ -55,24 +53,15 @@ pub fn less_or(a: u64, b: u64, lower: bool) -> bool
     if a == b { lower } else { a < b }
 }
 
-// The lowest item of a word whose first item is `at`, or else what the words above have. `at` is small, so that the sum fits.
-pub fn lowest_or(w: u64, at: u8, above: Item) -> Item
-    ensures { result ≡ (when eqb w 0 then above else Item.At (at + count_trailing_zeros 64 w)) }
-{
-    if w == 0 {
-        return above;
-    }
-    Item::At(at as usize + u64::trailing_zeros(w) as usize)
-}
-
 // The highest item of a word whose first item is `at`, or else what the words below have.
-pub fn highest_or(w: u64, at: u8, below: Item) -> Item
-    ensures { result ≡ (when eqb w 0 then below else Item.At (at + (63 - count_leading_zeros 64 w))) }
+pub fn highest_or(w: u64, at: usize, below: Option<usize>) -> Option<usize>
+    requires { at + 64 ≤ 2 ^ 64 }
+    ensures { result ≡ (when eqb w 0 then below else Some (at + (63 - count_leading_zeros 64 w))) }
 {
     if w == 0 {
         return below;
     }
-    Item::At(at as usize + (63 - u64::leading_zeros(w) as usize))
+    Some(at + (63 - u64::leading_zeros(w) as usize))
 }
 
 // The items below n, of a word whose first item is `at`.

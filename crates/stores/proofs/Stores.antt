@@ -1,6 +1,6 @@
 -- Values stored into a list.
 -- Assumes nothing.
-use mathlib.Core.Path.{◌≡◌, refl, sym, ◌∙◌, ap}
+use mathlib.Core.Path.{◌≡◌, refl, sym, ◌∙◌, ap, ap₂}
 use mathlib.Core.Bool.{Bool, true, false}
 use mathlib.Core.List.{List, [], ◌∷◌, ◌++◌}
 use Prim.Native.Nat.{ℕ, zero, suc, ◌+◌, ◌-◌, ◌≤◌, ◌<◌}
@@ -11,6 +11,9 @@ use lib.Dec.{ltb}
 use lib.ListN.{length, get_or, set, take, drop, length-set, length-append, length-take, length-drop, replicate, length-replicate, get_or-replicate, get_or-append, get_or-eq_default}
 use lib.Seq.{ext_get_or, take-suc, take_all, length-take-le, get_or-take, get_or-drop, get_or-append-add, get_or-set_same, get_or-set_other}
 use borrow.Author.Tests.{ltb-true, ltb-false}
+use borrow.Rule.Slice.PartMut.{put_mid}
+use Rattle.std.proofs.Math.Seq.{take-suc-set}
+use Rattle.std.proofs.lemmas.List.{append_assoc, drop-set-lt, take-append-drop, drop-drop}
 use Rattle.stores.specs.Stores.{put_at}
 
 pub length-put_at : (l : List ℕ) (at : ℕ) (vs : List ℕ) → length (put_at l at vs) ≡ length l
@@ -68,6 +71,23 @@ put_at_in l at (v ∷ vs) (suc j) h k =
     rw e (put_at_in (set l at v) (suc at) vs j (omega arith) (le_of_suc-le-suc k))
 
 -- a whole list stored over another
+-- what was there before, the values, and what is behind them
+pub put_at_spliced : (l : List ℕ) (at : ℕ) (vs : List ℕ) → at + length vs ≤ length l → take at l ++ (vs ++ drop (at + length vs) l) ≡ put_at l at vs
+unfolding put_at
+put_at_spliced l at [] h = rw (add-zero at) (take-append-drop at l)
+put_at_spliced l at (v ∷ vs) h =
+    let b : at < length l = omega arith in
+    let f : at + suc (length vs) ≡ suc at + length vs = omega arith in
+    let g : suc at + length vs ≤ length (set l at v) = rw (length-set l at v) (omega arith) in
+    rw f
+    (sym (append_assoc (take at l) (v ∷ []) (vs ++ drop (suc at + length vs) l))
+    ∙ ap₂ ◌++◌ (sym (take-suc-set l at v b)) (ap (λ (r : List ℕ). vs ++ r) (sym (drop-set-lt (suc at + length vs) l at v (omega arith))))
+    ∙ put_at_spliced (set l at v) (suc at) vs g)
+
+-- the same as a store into a part of a slice leaves it
+pub put_at_mid : (l : List ℕ) (at k : ℕ) (xs vs : List ℕ) → xs ≡ vs → k ≡ length vs → at + length vs ≤ length l → put_mid at k l xs ≡ put_at l at vs
+put_at_mid l at k xs vs e n h = rw (e, n, drop-drop (length vs) at l) (put_at_spliced l at vs h)
+
 pub put_at_whole : (l vs : List ℕ) → length l ≡ length vs → put_at l 0 vs ≡ vs
 put_at_whole l vs e =
     ext_get_or 0 (put_at l 0 vs) vs (length-put_at l 0 vs ∙ e)

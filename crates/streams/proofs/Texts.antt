@@ -1,11 +1,10 @@
--- What a buffer says of an input whose bytes are known, once it is full or the input has ended; and what is written for that input.
+-- What a buffer says of an input whose bytes are known, once it is full or the input has ended; and bytes that stand first in a buffer.
 -- Assumes nothing.
-use Rattle.std.proofs.Common.{◌≡◌, ℕ, ◌+◌, ◌<◌, ◌≤◌, List, [], ◌++◌, None, Some, IfSome, OnOk, Ok, Err, arith, length, take, sym, ap, ◌∙◌, subst, append-nil, length-take-le, take_all}
+use Rattle.std.proofs.Common.{◌≡◌, ℕ, ◌+◌, ◌<◌, ◌≤◌, List, [], ◌++◌, None, Some, IfSome, arith, length, take, sym, ap, ◌∙◌, append-nil, length-take-le, take_all}
 use Rattle.std.proofs.Math.Nat.{eq-or-lt_of_le}
 use Rattle.std.proofs.Math.Seq.{take-append_seam}
 use Rattle.std.specs.declared.option.Option.{Option}
-use Rattle.std.specs.declared.result.Result.{Result}
-use Rattle.std.specs.Io.KnownBytes.{Consumes, IsAtEnd, Appends}
+use Rattle.std.specs.Io.KnownBytes.{Consumes, IsAtEnd}
 use Rattle.stores.specs.Stores.{put_at}
 use Rattle.stores.proofs.Stores.{length-put_at, part_stored}
 use mathlib.Core.Logic.{⊎_elim}
@@ -31,17 +30,7 @@ of_what_was_read (Some text) None input n P within read end each = absurd read
 of_what_was_read (Some text) (Some rest) input n P within read end each = each text (as_much input text rest n within read end)
 
 -- the first bytes, where they were stored
-first_stored : (before after bytes : List ℕ) (count : ℕ) → count ≤ length after → (count ≡ length bytes) × (after ≡ put_at before 0 bytes) → take count after ≡ bytes
+pub first_stored : (before after bytes : List ℕ) (count : ℕ) → count ≤ length after → (count ≡ length bytes) × (after ≡ put_at before 0 bytes) → take count after ≡ bytes
 first_stored before after bytes count fits put =
     let room : 0 + count ≤ length before = omega (arith, ap length put.1, length-put_at before 0 bytes) in
     ap (take count) put.1 ∙ part_stored before 0 bytes count (sym put.0) room
-
--- the bytes f text are stored for each text that begins so, and then written
-pub of_what_was_written : {T E : Type 0} (r : Result T E) (known rest old new : Option (List ℕ)) (input before after : List ℕ) (n count : ℕ) (f : List ℕ → List ℕ)
-    → n ≤ length input → count ≤ length after → Consumes known rest (take n input) → (n < length input → IsAtEnd rest)
-    → ((text : List ℕ) → take n input ≡ take (length input) text → (count ≡ length (f text)) × (after ≡ put_at before 0 (f text)))
-    → OnOk r (Appends old new (take count after)) → OnOk r (IfSome known (λ text. Appends old new (f text)))
-of_what_was_written (Ok x) known rest old new input before after n count f within fits read end each written =
-    of_what_was_read known rest input n _ within read end
-    (λ text e. subst (Appends old new) (first_stored before after (f text) count fits (each text e)) written)
-of_what_was_written (Err x) known rest old new input before after n count f within fits read end each written = tt

@@ -5,3 +5,4 @@ pub mod Rows
 pub mod Halving
 pub mod Moving
 pub mod Clearing
+pub mod Asking

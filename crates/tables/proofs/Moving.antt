@@ -1,6 +1,6 @@
 -- Making room in a table for one more set, word by word.
 -- Assumes nothing.
-use mathlib.Core.Path.{◌≡◌, refl, sym, ◌∙◌, ap}
+use mathlib.Core.Path.{◌≡◌, refl, sym, ◌∙◌, ap, subst}
 use mathlib.Core.List.{List, ◌∷◌, ◌++◌}
 use Prim.Native.Nat.{ℕ, suc, ◌+◌, ◌-◌, ◌*◌, ◌^◌, ◌≤◌, ◌<◌}
 use native.Mathlib.Numerals.{add-one}
@@ -95,11 +95,14 @@ module _ {t₀ : List ℕ} {n at : ℕ} {t : List ℕ} {i : ℕ} (fits : 4 * (n 
         let e : k ≡ suc (k - 1) = omega arith in
         rw e (above (k - 1) (omega arith) (omega arith) ∙ sym (row_at n t₀ (k - 1) (omega arith)) ∙ sym (spliced_after x old at at_old (k - 1) (omega arith)))))
 
-    pub inserted : Inserts n at x t₀ (put_at t (i - 4) (words_of 4 x))
-    inserted =
+    into : Inserts n at x t₀ (put_at t (i - 4) (words_of 4 x))
+    into =
         record {
           rows =
               rows_are (n + 1) stored (take at old ++ (x ∷ drop at old))
               (spliced_length x old at at_old ∙ ap suc (length-rows_at n t₀ 0) ∙ sym (add-one n)) each;
           rest = λ w l. put_at_above t (i - 4) (words_of 4 x) w (rw (length-words_of 4 x) (omega (arith, first))) ∙ m.rest w l;
         }
+
+    pub inserted : Inserts n at x t₀ (put_at t (4 * at) (words_of 4 x))
+    inserted = subst (λ (k : ℕ). Inserts n at x t₀ (put_at t k (words_of 4 x))) first into

@@ -1,12 +1,14 @@
 -- A set stored into a list of words, and read from it.
 -- Assumes nothing.
-use mathlib.Core.Path.{◌≡◌, ◌∙◌}
+use mathlib.Core.Path.{◌≡◌, refl, sym, ◌∙◌, ap}
 use mathlib.Core.List.{List, [], ◌∷◌}
-use Prim.Native.Nat.{ℕ, ◌+◌, ◌*◌, ◌^◌, ◌≤◌, ◌<◌}
-use native.Mathlib.Numerals.{add-one, add-two, add-three}
+use Prim.Native.Nat.{ℕ, zero, suc, ◌+◌, ◌-◌, ◌*◌, ◌^◌, ◌≤◌, ◌<◌}
 use native.Mathlib.Omega.{arith}
-use lib.ListN.{length, get_or, set}
+use lib.ListN.{length, get_or, take, drop}
+use Rattle.std.proofs.Math.Seq.{drop-cons}
 use Rattle.sets.specs.Words.{value, word}
+use Rattle.sets.proofs.Words.{same_words, word_value}
+use Rattle.sets.proofs.Written.{Arr}
 use Rattle.model.specs.Lists.{tabulate, elems, set_at}
 use Rattle.model.proofs.Lists.{length-tabulate, get_d_tabulate, set_at_words, set_at_same}
 use Rattle.stores.specs.Stores.{put_at}
@@ -38,19 +40,18 @@ stored_after l at w s b v h =
 
 -- ---- the code's own terms
 
-pub loaded4 : (ws : List ℕ) (at : ℕ) → value (get_or ws at 0 ∷ get_or ws (at + 1) 0 ∷ get_or ws (at + 2) 0 ∷ get_or ws (at + 3) 0 ∷ []) ≡ set_at 4 ws at
-unfolding set_at elems
-loaded4 ws at = simp (add-one, add-two, add-three)
+elems_taken : (w at : ℕ) (ws : List ℕ) → at + w ≤ length ws → take w (drop at ws) ≡ elems ws at w
+unfolding elems
+elems_taken zero at ws l = refl
+elems_taken (suc w) at ws l = rw (drop-cons ws at 0 (omega arith)) (ap (λ (r : List ℕ). get_or ws at 0 ∷ r) (elems_taken w (suc at) ws (omega arith)))
 
-pub loaded2 : (ws : List ℕ) (at : ℕ) → value (get_or ws at 0 ∷ get_or ws (at + 1) 0 ∷ []) ≡ set_at 2 ws at
-unfolding set_at elems
-loaded2 ws at = simp add-one
+pub loaded : (w : ℕ) (ws : List ℕ) (at : ℕ) → at + w ≤ length ws → value (take (at + w - at) (drop at ws)) ≡ set_at w ws at
+unfolding set_at
+loaded w ws at l = let e : at + w - at ≡ w = omega arith in rw e (ap value (elems_taken w at ws l))
 
-pub stored4 : (ws : List ℕ) (at s a b c d : ℕ) → a ≡ word s 0 → b ≡ word s 1 → c ≡ word s 2 → d ≡ word s 3
-    → set (set (set (set ws at a) (at + 1) b) (at + 2) c) (at + 3) d ≡ put_at ws at (words_of 4 s)
-unfolding put_at words_of tabulate
-stored4 ws at s a b c d ea eb ec ed = rw (ea, eb, ec, ed) (simp (add-one, add-two, add-three))
+pub words_are : (w : ℕ) (ws : List ℕ) → Arr w ws → ws ≡ words_of w (value ws)
+words_are w ws a =
+    same_words ws (words_of w (value ws)) (a.0 ∙ sym (length-words_of w (value ws))) (λ k l. let b : k < w = rw a.0 at l in sym (word_value ws k a.1) ∙ sym (get_d_words_of w (value ws) k b))
 
-pub stored2 : (ws : List ℕ) (at s a b : ℕ) → a ≡ word s 0 → b ≡ word s 1 → set (set ws at a) (at + 1) b ≡ put_at ws at (words_of 2 s)
-unfolding put_at words_of tabulate
-stored2 ws at s a b ea eb = rw (ea, eb) (simp add-one)
+pub stored : (ws : List ℕ) (at w : ℕ) (xs : List ℕ) → Arr w xs → put_at ws at xs ≡ put_at ws at (words_of w (value xs))
+stored ws at w xs a = ap (put_at ws at) (words_are w xs a)

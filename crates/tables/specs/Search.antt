@@ -1,9 +1,7 @@
 -- What a search in a growing table tells, and what putting a set into one leaves. A table t with n sets has them at `rows_at n t 0`.
 -- Assumes nothing.
-use Rattle.std.specs.Prelude.{◌≡◌, List, ◌∷◌, ◌++◌, ℕ, ◌+◌, ◌*◌, ◌≤◌, ◌<◌, get_or, take, drop}
+use Rattle.std.specs.Prelude.{◌≡◌, List, ◌∷◌, ◌++◌, ℕ, ◌+◌, ◌*◌, ◌≤◌, ◌<◌, get_or, take, drop, Result, Ok, Err}
 use Rattle.model.specs.Lists.{rows_at}
-use Rattle.tables.specs.declared.growing.Found.{Found}
-use Rattle.tables.specs.declared.growing.Found.TheVariants.{At, Missing}
 
 -- place i of n growing sets is where x belongs, which is not one of them
 pub record Between (n : ℕ) (xs : List ℕ) (x i : ℕ) : Type 0 where
@@ -12,9 +10,9 @@ pub record Between (n : ℕ) (xs : List ℕ) (x i : ℕ) : Type 0 where
   pub after : (j : ℕ) → i ≤ j → j < n → x < get_or xs j 0
 
 -- x looked for among n growing sets
-abbrev pub Finds : ℕ → List ℕ → ℕ → Found → Type 0
-Finds n xs x (At i) = (i < n) × (get_or xs i 0 ≡ x)
-Finds n xs x (Missing i) = Between n xs x i
+abbrev pub Finds : ℕ → List ℕ → ℕ → Result ℕ ℕ → Type 0
+Finds n xs x (Ok i) = (i < n) × (get_or xs i 0 ≡ x)
+Finds n xs x (Err i) = Between n xs x i
 
 -- x put at place i of a table's n sets, and the sets from there on one place higher
 pub record Inserts (n i x : ℕ) (t t' : List ℕ) : Type 0 where

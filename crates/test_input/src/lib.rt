@@ -5,22 +5,17 @@ mod unread;
 
 use std::io::Read;
 use streams::read_full;
-use text::Field;
 use text_sets::{hexadecimal_set, read_hexadecimal};
 pub use unread::Unread;
 
 // A blank and 16 digits.
+#[tactic(auto, using(text_sets::proofs::Hexadecimals::hexadecimal_there))]
 fn next_number<R: Read>(from: &mut R) -> Result<u64, Unread> {
     let mut field = [0u8; 17];
-    if read_full(from, &mut field)? != 17 {
+    if read_full(from, &mut field)? != 17 || field[0] != b' ' {
         return Err(Unread::Line);
     }
-    if field[0] != b' ' {
-        return Err(Unread::Line);
-    }
-    let Field::Ends(_) = read_hexadecimal(&field, 1, 16) else {
-        return Err(Unread::Line);
-    };
+    read_hexadecimal(&field, 1, 16).ok_or(Unread::Line)?;
     Ok(hexadecimal_set(&field, 1, 16).word(0))
 }
 

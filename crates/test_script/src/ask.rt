@@ -1,4 +1,5 @@
 // What alters no record: the calls that read one, the reader and the writer of a crew text, and titles.
+use crate::answer::told;
 use crate::lent::{MOST_LENT, MOST_WORDS, lent, lent_bytes, widened};
 use panel::{panel_may, panel_quality, panel_read_crew, panel_write_crew};
 use std::io::{Read, Write};
@@ -11,16 +12,16 @@ const MOST_BYTES: usize = 4096;
 fn quality<R: Read, W: Write>(from: &mut R, to: &mut W, rec: &[u64]) -> Result<(), Unread> {
     let mut w = [0u64; 4];
     last_numbers(from, &mut w)?;
-    let a = panel_quality(rec, w[0], w[1], w[2], w[3]);
-    case(to, b"quality", &w, &[a.code, a.quality], rec)?;
+    let a = told(panel_quality(rec, w[0], w[1], w[2], w[3]));
+    case(to, b"quality", &w, &a, rec)?;
     Ok(())
 }
 
 fn may<R: Read, W: Write>(from: &mut R, to: &mut W, rec: &[u64]) -> Result<(), Unread> {
     let mut w = [0u64; 2];
     last_numbers(from, &mut w)?;
-    let a = panel_may(rec, w[0], w[1]);
-    case(to, b"may", &w, &[a.code, a.allowed], rec)?;
+    let a = told(panel_may(rec, w[0], w[1]).map(u64::from));
+    case(to, b"may", &w, &a, rec)?;
     Ok(())
 }
 
@@ -33,8 +34,11 @@ fn read_bytes<R: Read, W: Write>(
     if read_full(from, crew)? != crew.len() {
         return Err(Unread::Line);
     }
-    let a = panel_read_crew(crew, words);
-    case(to, b"read", &[], &[a.code, a.n, a.m], words)?;
+    let a = match panel_read_crew(crew, words) {
+        Ok(size) => [0, size.n, size.m],
+        Err(refusal) => [refusal.number(), 0, 0],
+    };
+    case(to, b"read", &[], &a, words)?;
     Ok(())
 }
 
@@ -61,15 +65,9 @@ fn write_bytes<W: Write>(
     if crew.len() != words.len() {
         return Err(Unread::Line);
     }
-    let a = panel_write_crew(rec, crew);
+    let a = told(panel_write_crew(rec, crew).map(|length| length as u64));
     widen(crew, words);
-    case(
-        to,
-        b"write",
-        &[crew.len() as u64],
-        &[a.code, a.length],
-        words,
-    )?;
+    case(to, b"write", &[crew.len() as u64], &a, words)?;
     Ok(())
 }
 

@@ -1,4 +1,5 @@
 // What alters the record: the calls that mine and edit, and a word put into it.
+use crate::answer::{number_alone, told};
 use crate::lent::{MOST_WORDS, lent};
 use crate::list::list;
 use panel::{panel_eliminate, panel_mine, panel_restore, panel_review, panel_strike};
@@ -15,8 +16,8 @@ fn mine_words<R: Read, W: Write>(
     rec: &mut [u64],
 ) -> Result<(), Unread> {
     last_numbers(from, crew)?;
-    let a = panel_mine(n, m, crew, rec);
-    case(to, b"mine", &[n, m], &[a.code, a.candidates], rec)?;
+    let a = told(panel_mine(n, m, crew, rec));
+    case(to, b"mine", &[n, m], &a, rec)?;
     Ok(())
 }
 
@@ -36,32 +37,38 @@ fn mine<R: Read, W: Write>(from: &mut R, to: &mut W, rec: &mut [u64]) -> Result<
 fn strike<R: Read, W: Write>(from: &mut R, to: &mut W, rec: &mut [u64]) -> Result<(), Unread> {
     let mut w = [0u64; 1];
     last_numbers(from, &mut w)?;
-    let a = panel_strike(rec, w[0]);
-    case(to, b"strike", &w, &[a.code], rec)?;
+    let a = number_alone(panel_strike(rec, w[0]));
+    case(to, b"strike", &w, &a, rec)?;
     Ok(())
 }
 
 fn restore<R: Read, W: Write>(from: &mut R, to: &mut W, rec: &mut [u64]) -> Result<(), Unread> {
     let mut w = [0u64; 1];
     last_numbers(from, &mut w)?;
-    let a = panel_restore(rec, w[0]);
-    case(to, b"restore", &w, &[a.code], rec)?;
+    let a = number_alone(panel_restore(rec, w[0]));
+    case(to, b"restore", &w, &a, rec)?;
     Ok(())
 }
 
 fn eliminate<R: Read, W: Write>(from: &mut R, to: &mut W, rec: &mut [u64]) -> Result<(), Unread> {
     let mut w = [0u64; 6];
     last_numbers(from, &mut w)?;
-    let a = panel_eliminate(rec, w[0], w[1], w[2], w[3], w[4], w[5]);
-    case(to, b"eliminate", &w, &[a.code, a.removed, a.examined], rec)?;
+    let a = match panel_eliminate(rec, w[0], w[1], w[2], w[3], w[4], w[5]) {
+        Ok(done) => [0, done.removed, done.examined],
+        Err(refusal) => [refusal.number(), 0, 0],
+    };
+    case(to, b"eliminate", &w, &a, rec)?;
     Ok(())
 }
 
 fn review<R: Read, W: Write>(from: &mut R, to: &mut W, rec: &mut [u64]) -> Result<(), Unread> {
     let mut w = [0u64; 4];
     last_numbers(from, &mut w)?;
-    let a = panel_review(rec, w[0], w[1], w[2], w[3]);
-    case(to, b"review", &w, &[a.code, a.restored, a.examined], rec)?;
+    let a = match panel_review(rec, w[0], w[1], w[2], w[3]) {
+        Ok(done) => [0, done.restored, done.examined],
+        Err(refusal) => [refusal.number(), 0, 0],
+    };
+    case(to, b"review", &w, &a, rec)?;
     Ok(())
 }
 

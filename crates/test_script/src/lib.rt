@@ -19,6 +19,7 @@
 // Where a line is none of these the program says so and ends.
 #![tactic(auto)]
 
+mod answer;
 mod ask;
 mod edit;
 mod lent;

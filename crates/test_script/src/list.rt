@@ -1,6 +1,6 @@
 // A list of calls served in one go.
 use crate::lent::{MOST_WORDS, lent};
-use panel::{Served, serve};
+use panel::{NotServed, serve};
 use std::io::{Read, Write};
 use test_input::{Unread, last_numbers, numbers};
 use test_support::case;
@@ -15,9 +15,15 @@ fn serve_words<W: Write>(
     rec: &mut [u64],
 ) -> Result<(), Unread> {
     match serve(n, m, crew, calls, rec, out) {
-        Served::Unreadable => case(to, b"list unreadable", &[], out, rec)?,
-        Served::Refused(code) => case(to, b"list refused", &[code], out, rec)?,
-        Served::Mined(candidates) => case(to, b"list mined", &[candidates], out, rec)?,
+        Ok(candidates) => case(to, b"list mined", &[candidates], out, rec)?,
+        Err(NotServed::Unreadable) => case(to, b"list unreadable", &[], out, rec)?,
+        Err(NotServed::Refused(refusal)) => case(
+            to,
+            b"list refused",
+            &[refusal.number()],
+            out,
+            rec,
+        )?,
     }
     Ok(())
 }

@@ -1,11 +1,9 @@
 // The set library at the borders of its words: for each width, and each i there, the sets {i} and {0, .., i} and what the library says of them.
 #![tactic(auto)]
 
-ghost use Rattle.std.specs.Prelude.{◌≡◌, true};
+ghost use Rattle.std.specs.Prelude.{◌≡◌, ◌≤◌, ◌<◌, true};
 
-use sets::Item;
-use sets_128::Set128;
-use sets_256::Set256;
+use sets::{Set, Set256};
 use std::io;
 use std::io::Write;
 use test_support::{number, text};
@@ -16,8 +14,8 @@ struct Row {
     contains: bool,
     count: usize,
     other_count: usize,
-    lowest: Item,
-    other_highest: Item,
+    lowest: Option<usize>,
+    other_highest: Option<usize>,
     proper: bool,
     less: bool,
 }
@@ -26,17 +24,17 @@ fn flag<W: Write>(to: &mut W, f: bool) -> io::Result<()> {
     number(to, u64::from(f))
 }
 
-fn item<W: Write>(to: &mut W, i: Item) -> io::Result<()> {
+fn item<W: Write>(to: &mut W, i: Option<usize>) -> io::Result<()> {
     match i {
-        Item::At(n) => number(to, n as u64),
-        Item::Nothing => text(to, b" -"),
+        Some(n) => number(to, n as u64),
+        None => text(to, b" -"),
     }
 }
 
-fn print<W: Write>(to: &mut W, width: u64, i: u8, row: Row) -> io::Result<()> {
+fn print<W: Write>(to: &mut W, width: usize, i: usize, row: Row) -> io::Result<()> {
     text(to, b"width")?;
-    number(to, width)?;
-    number(to, u64::from(i))?;
+    number(to, width as u64)?;
+    number(to, i as u64)?;
     text(to, b":")?;
     flag(to, row.contains)?;
     number(to, row.count as u64)?;
@@ -48,34 +46,22 @@ fn print<W: Write>(to: &mut W, width: u64, i: u8, row: Row) -> io::Result<()> {
     text(to, b"\n")
 }
 
-fn case128<W: Write>(to: &mut W, i: u8) -> io::Result<()> {
-    let a = Set128::empty().insert(i as usize);
-    let b = Set128::below(i as usize + 1);
+fn case<const WORDS: usize, W: Write>(to: &mut W, i: usize) -> io::Result<()>
+    requires width { WORDS ≤ 4 }
+    requires i_bound { i < 256 }
+{
+    let a = &Set::<WORDS>::empty().insert(i);
+    let b = &Set::<WORDS>::below(i + 1);
     let row = Row {
-        contains: a.contains(i as usize),
+        contains: a.contains(i),
         count: a.count(),
         other_count: b.count(),
         lowest: a.lowest(),
         other_highest: b.highest(),
-        proper: a.is_proper_subset(b),
-        less: a.less(b),
+        proper: a.is_proper_subset(*b),
+        less: a.less(*b),
     };
-    print(to, 128, i, row)
-}
-
-fn case256<W: Write>(to: &mut W, i: u8) -> io::Result<()> {
-    let a = Set256::empty().insert(i as usize);
-    let b = Set256::below(i as usize + 1);
-    let row = Row {
-        contains: a.contains(i as usize),
-        count: a.count(),
-        other_count: b.count(),
-        lowest: a.lowest(),
-        other_highest: b.highest(),
-        proper: a.is_proper_subset(b),
-        less: a.less(b),
-    };
-    print(to, 256, i, row)
+    print(to, 64 * WORDS, i, row)
 }
 
 // What is left of a set without another has nothing in common with that other: a caller knows it from the library's promises.
@@ -88,10 +74,10 @@ fn apart(a: Set256, b: Set256) -> bool
 fn main(rt: HostRuntime) -> io::Result<()> {
     let mut out = rt.stdout();
     for i in [0, 63, 64, 127, 128, 255] {
-        case128(&mut out, i)?;
+        case::<2, _>(&mut out, i)?;
     }
     for i in [0, 63, 64, 127, 128, 255] {
-        case256(&mut out, i)?;
+        case::<4, _>(&mut out, i)?;
     }
     text(&mut out, b"apart:")?;
     flag(&mut out, apart(Set256::below(200), Set256::below(100)))?;

@@ -12,9 +12,7 @@ pub fn widen(bytes: &[u8], words: &mut [u64])
     requires { length bytes.now ≡ length words.old }
     ensures { words.new ≡ bytes.now }
 {
-    let mut i = 0;
-    while i < bytes.len() {
+    for i in 0..bytes.len() {
         words[i] = wide(bytes[i]);
-        i += 1;
     }
 }

@@ -19,10 +19,8 @@ pub fn digest(ws: &[u64]) -> u64
     ensures { result ≡ digest_of ws.now }
 {
     let mut d = START;
-    let mut i = 0;
-    while i < ws.len() {
+    for i in 0..ws.len() {
         d = mix(d ^ ws[i]);
-        i += 1;
     }
     d
 }

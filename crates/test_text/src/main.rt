@@ -8,7 +8,6 @@ use std::io;
 use std::io::Write;
 use streams::read_full;
 use test_support::case;
-use text::Field;
 use text_sets::{hexadecimal_set, read_hexadecimal};
 
 const MOST_INPUT: usize = 65536;
@@ -17,16 +16,20 @@ const MOST_WORDS: usize = 600;
 
 const MOST_CASES: usize = 1000;
 
+#[tactic(auto, using(text_sets::proofs::Hexadecimals::hexadecimal_there))]
 fn number_at(input: &[u8], at: usize) -> usize {
-    let Field::Ends(_) = read_hexadecimal(input, at, 4) else {
-        return 0;
-    };
-    hexadecimal_set(input, at, 4).word(0) as usize
+    match read_hexadecimal(input, at, 4) {
+        Some(_) => hexadecimal_set(input, at, 4).word(0) as usize,
+        None => 0,
+    }
 }
 
 fn run<W: Write>(to: &mut W, text: &[u8], words: &mut [u64]) -> io::Result<()> {
-    let r = text_crew::read_crew(text, words);
-    case(to, b"read", &[], &[r.code, r.n, r.m], words)
+    let a = match text_crew::read_crew(text, words) {
+        Ok(size) => [0, size.n, size.m],
+        Err(refusal) => [refusal.number(), 0, 0],
+    };
+    case(to, b"read", &[], &a, words)
 }
 
 // Words that show what was written to them.

@@ -8,12 +8,15 @@ use Prim.Native.Nat.{ℕ, ◌+◌, ◌-◌, ◌≤◌, ◌<◌}
 use native.Mathlib.Nat.{add_assoc, add-zero}
 use native.Mathlib.Omega.{arith}
 use lib.Dec.{eqb, leb}
-use lib.ListN.{length, get_or, length-append, get_or-append}
-use lib.Seq.{ext_get_or, get_or-append-add}
+use lib.ListN.{length, get_or, take, drop, length-append, length-drop, get_or-append}
+use lib.Seq.{ext_get_or, get_or-append-add, get_or-take, get_or-drop, length-take-le}
+use Rattle.std.specs.List.{between, starts_with}
+use Rattle.std.proofs.lemmas.Slice.{between_to_end}
+use Rattle.std.proofs.lemmas.Slice.Eq.{slice_eq-Decides}
+use Rattle.std.proofs.lemmas.Bool.Decides.{Decides-eqb}
 use Rattle.sets.specs.Truth.{when◌then◌else◌, all}
-use Rattle.sets.proofs.Truth.{by_test, when-true, when-false, not-So, and_iff, all_of, all_is, all_through, eqb_iff, leb_iff, either}
-use Rattle.text.specs.declared.field.Field.{Field}
-use Rattle.text.specs.declared.field.Field.TheVariants.{Ends, Missing}
+use Rattle.sets.proofs.Truth.{by_test, when-true, when-false, not-So, same_test, and_iff, all_of, all_is, eqb_iff, leb_iff, either}
+use Rattle.std.specs.Prelude.{Option, Some, None}
 use Rattle.text.specs.Fixed.{holds, fixed_at, line_end, line_end_at}
 
 -- ---- what holding says
@@ -89,52 +92,75 @@ holds_self text =
     (holds_iff text 0 text).1
     (let b : 0 + length text ≤ length text = omega arith in b, λ i l. let z : 0 + i ≡ i = omega arith in ap (λ (x : ℕ). get_or text x 0) z)
 
--- ---- comparing byte by byte
+-- ---- the bytes from a place on, compared with those of a slice
 
-module _ (text : List ℕ) (at : ℕ) (bytes : List ℕ) (i : ℕ) where
-  pub holds_differs : i < length bytes → (get_or text (at + i) 0 ≡ get_or bytes i 0 → ⊥) → holds text at bytes ≡ false
-  holds_differs l h = not-So (holds text at bytes) (λ s. h (holds_at text at bytes s i l))
+holds_by : (text : List ℕ) (at : ℕ) (bytes : List ℕ) → at + length bytes ≤ length text → take (length bytes) (drop at text) ≡ bytes
+    → So (holds text at bytes)
+holds_by text at bytes b e =
+    (holds_iff text at bytes).1
+    (b, λ i l. sym (get_or-drop at text i 0) ∙ sym (get_or-take (length bytes) (drop at text) i 0 l) ∙ ap (λ (xs : List ℕ). get_or xs i 0) e)
 
-  pub holds_through : at + length bytes ≤ length text → length bytes ≤ i → So (all i (λ k. eqb (get_or text (at + k) 0) (get_or bytes k 0)))
-      → So (holds text at bytes)
-  unfolding holds
-  holds_through b h s =
-      (and_iff (leb (at + length bytes) (length text)) (all (length bytes) (λ k. eqb (get_or text (at + k) 0) (get_or bytes k 0)))).1
-      ((leb_iff (at + length bytes) (length text)).1 b, sym (all_through (length bytes) i (λ k. eqb (get_or text (at + k) 0) (get_or bytes k 0)) h s))
+held_part : (text : List ℕ) (at : ℕ) (bytes : List ℕ) → So (holds text at bytes) → take (length bytes) (drop at text) ≡ bytes
+held_part text at bytes s =
+    let b : at + length bytes ≤ length text = holds_end text at bytes s in
+    let n : length (drop at text) ≡ length text - at = length-drop at text in
+    let k : length (take (length bytes) (drop at text)) ≡ length bytes = length-take-le (length bytes) (drop at text) (omega arith) in
+    ext_get_or 0 (take (length bytes) (drop at text)) bytes k
+    (λ i l.
+    let h : i < length bytes = omega arith in
+    get_or-take (length bytes) (drop at text) i 0 h ∙ get_or-drop at text i 0 ∙ holds_at text at bytes s i h)
+
+pub holds_starts : (text : List ℕ) (at : ℕ) (bytes : List ℕ) (r : Bool) → at ≤ length text
+    → (r ≡ true → length bytes ≤ length (between at (length text) text)) → r ≡ starts_with eqb (between at (length text) text) bytes
+    → r ≡ holds text at bytes
+holds_starts text at bytes r h room e =
+    let part : between at (length text) text ≡ drop at text = between_to_end text at (length text) (omega arith) in
+    let n : length (drop at text) ≡ length text - at = length-drop at text in
+    let d : (r ≡ true → bytes ≡ take (length bytes) (drop at text)) × (bytes ≡ take (length bytes) (drop at text) → r ≡ true) =
+    slice_eq-Decides Decides-eqb bytes (take (length bytes) (drop at text)) r (rw part at e) in
+    same_test r (holds text at bytes)
+    (λ s. let b : length bytes ≤ length (drop at text) = rw part at (room s) in holds_by text at bytes (omega arith) (sym (d.0 s)))
+    (λ s. d.1 (sym (held_part text at bytes s)))
+
+-- ---- the field of these bytes
+
+pub field_is : (text : List ℕ) (at : ℕ) (bytes : List ℕ) → So (holds text at bytes) → Some (at + length bytes) ≡ fixed_at text at bytes
+unfolding fixed_at
+field_is text at bytes s = sym (when-true (holds text at bytes) (Some (at + length bytes)) None s)
+
+pub field_is_not : (text : List ℕ) (at : ℕ) (bytes : List ℕ) → holds text at bytes ≡ false → None ≡ fixed_at text at bytes
+unfolding fixed_at
+field_is_not text at bytes e = sym (when-false (holds text at bytes) (Some (at + length bytes)) None e)
+
+pub ruleset field_laws = (holds_end, field_is, field_is_not)
 
 -- ---- a field, by the test t that tells whether it is there; it would end at e
 
-pub field_of : (t b : Bool) (e : ℕ) → b ≡ t → b ≡ true → Ends e ≡ (when t then Ends e else Missing)
-field_of t b e h s = sym (when-true t (Ends e) Missing (sym h ∙ s))
-
-pub no_field_of : (t b : Bool) (e : ℕ) → b ≡ t → b ≡ false → Missing ≡ (when t then Ends e else Missing)
-no_field_of t b e h s = sym (when-false t (Ends e) Missing (sym h ∙ s))
-
-module _ {t : Bool} (e : ℕ) {r : Field} (h : r ≡ (when t then Ends e else Missing)) where
-  pub field_there : {k : ℕ} → r ≡ Ends k → (t ≡ true) × (k ≡ e)
+module _ {t : Bool} (e : ℕ) {r : Option ℕ} (h : r ≡ (when t then Some e else None)) where
+  pub field_there : {k : ℕ} → r ≡ Some k → (t ≡ true) × (k ≡ e)
   field_there {k} a =
-      by_test t (λ s. (s, let q : Ends k ≡ Ends e = sym a ∙ h ∙ when-true t (Ends e) Missing s in cc))
-      (λ s. let q : Ends k ≡ Missing = sym a ∙ h ∙ when-false t (Ends e) Missing s in let z : ◌≡◌ {A = ℕ} 0 1 = cc in absurd (omega arith))
+      by_test t (λ s. (s, let q : Some k ≡ Some e = sym a ∙ h ∙ when-true t (Some e) None s in cc))
+      (λ s. let q : Some k ≡ None = sym a ∙ h ∙ when-false t (Some e) None s in let z : ◌≡◌ {A = ℕ} 0 1 = cc in absurd (omega arith))
 
-  pub field_missing : r ≡ Missing → t ≡ false
+  pub field_missing : r ≡ None → t ≡ false
   field_missing a =
-      by_test t (λ s. let q : Missing ≡ Ends e = sym a ∙ h ∙ when-true t (Ends e) Missing s in let z : ◌≡◌ {A = ℕ} 0 1 = cc in absurd (omega arith))
+      by_test t (λ s. let q : None ≡ Some e = sym a ∙ h ∙ when-true t (Some e) None s in let z : ◌≡◌ {A = ℕ} 0 1 = cc in absurd (omega arith))
       (λ s. s)
 
-module _ (text : List ℕ) (at : ℕ) (bytes : List ℕ) {r : Field} (h : r ≡ fixed_at text at bytes) where
-  pub fixed_there : {k : ℕ} → r ≡ Ends k → (holds text at bytes ≡ true) × (k ≡ at + length bytes)
+module _ (text : List ℕ) (at : ℕ) (bytes : List ℕ) {r : Option ℕ} (h : r ≡ fixed_at text at bytes) where
+  pub fixed_there : {k : ℕ} → r ≡ Some k → (holds text at bytes ≡ true) × (k ≡ at + length bytes)
   unfolding fixed_at
   fixed_there = field_there (at + length bytes) h
 
-  pub fixed_missing : r ≡ Missing → holds text at bytes ≡ false
+  pub fixed_missing : r ≡ None → holds text at bytes ≡ false
   unfolding fixed_at
   fixed_missing = field_missing (at + length bytes) h
 
-module _ (text : List ℕ) (at : ℕ) {r : Field} (h : r ≡ line_end_at text at) where
-  pub line_end_there : {k : ℕ} → r ≡ Ends k → (holds text at line_end ≡ true) × (k ≡ at + 1)
+module _ (text : List ℕ) (at : ℕ) {r : Option ℕ} (h : r ≡ line_end_at text at) where
+  pub line_end_there : {k : ℕ} → r ≡ Some k → (holds text at line_end ≡ true) × (k ≡ at + 1)
   unfolding line_end_at
   line_end_there = fixed_there text at line_end h
 
-  pub line_end_missing : r ≡ Missing → holds text at line_end ≡ false
+  pub line_end_missing : r ≡ None → holds text at line_end ≡ false
   unfolding line_end_at
   line_end_missing = fixed_missing text at line_end h

@@ -12,9 +12,9 @@ use lib.ListN.{length, set, length-append}
 use borrow.Author.Tests.{lt-ltb, le-ltb, eq-eqb, ne_eqb}
 use Rattle.sets.specs.Truth.{when◌then◌else◌}
 use Rattle.sets.proofs.Truth.{when-true, when-false, when-passes, when_stops, either}
-use Rattle.text.specs.declared.decimal.Decimal.TheVariants.{Number, Nothing}
+use Rattle.std.specs.Prelude.{None}
 use Rattle.text.specs.Digits.{digit_at, digit_byte}
-use Rattle.text.specs.Decimal.{decimal_digit, decimal_at, decimal_of, decimal}
+use Rattle.text.specs.Decimal.{number, decimal_digit, decimal_at, decimal_of, decimal}
 use Rattle.stores.specs.Stores.{put_at}
 use Rattle.text.proofs.Digits.{digit_inside}
 use Rattle.stores.proofs.Stores.{put_at_more}
@@ -29,53 +29,53 @@ decimal_no text at h = le-ltb (digit_at text at) 10 h
 
 -- the digits from a place on, as far as they were looked at
 module _ (text : List ℕ) (at : ℕ) where
-  pub decimal_none : {a : ℕ} → a ≡ digit_at text at → 10 ≤ a → Nothing ≡ decimal_at text at
+  pub decimal_none : 10 ≤ digit_at text at → None ≡ decimal_at text at
   unfolding decimal_at
-  decimal_none ea h = sym (when_stops _ _ _ (decimal_no text at (rw ea at h)))
+  decimal_none h = sym (when_stops _ _ _ (decimal_no text at h))
 
-  pub decimal_one : {a b : ℕ} → a ≡ digit_at text at → a < 10 → b ≡ digit_at text (at + 1) → 10 ≤ b → Number a (at + 1) ≡ decimal_at text at
-  unfolding decimal_at
-  decimal_one ea h eb k = rw ea (sym (when-passes _ _ _ (decimal_yes text at (rw ea at h)) ∙ when_stops _ _ _ (decimal_no text (at + 1) (rw eb at k))))
-
-  pub decimal_leading : {a b : ℕ} → a ≡ digit_at text at → a ≡ 0 → b ≡ digit_at text (at + 1) → b < 10 → Nothing ≡ decimal_at text at
-  unfolding decimal_at
-  decimal_leading ea z eb k =
-      sym
-      (when-passes _ _ _ (decimal_yes text at (omega arith)) ∙ when-passes _ _ _ (decimal_yes text (at + 1) (rw eb at k))
-      ∙ when-true _ _ _ (eq-eqb (digit_at text at) 0 (omega arith)))
-
-  pub decimal_two : {a b c : ℕ} → a ≡ digit_at text at → a < 10 → a ≢ 0 → b ≡ digit_at text (at + 1) → b < 10 → c ≡ digit_at text (at + 2) → 10 ≤ c
-      → Number (10 * a + b) (at + 2) ≡ decimal_at text at
-  unfolding decimal_at
-  decimal_two ea ha na eb hb ec hc =
-      rw (ea, eb)
-      (sym
-      (when-passes _ _ _ (decimal_yes text at (rw ea at ha)) ∙ when-passes _ _ _ (decimal_yes text (at + 1) (rw eb at hb))
-      ∙ when-false _ _ _ (ne_eqb (digit_at text at) 0 (rw ea at na)) ∙ when_stops _ _ _ (decimal_no text (at + 2) (rw ec at hc))))
-
-  -- three digits at the least, and the first is not 0
-  module _ {a b c d : ℕ} (ea : a ≡ digit_at text at) (ha : a < 10) (na : a ≢ 0) (eb : b ≡ digit_at text (at + 1)) (hb : b < 10)
-      (ec : c ≡ digit_at text (at + 2)) (hc : c < 10) (ed : d ≡ digit_at text (at + 3)) where
-    pub decimal_three : 10 ≤ d → Number (100 * a + 10 * b + c) (at + 3) ≡ decimal_at text at
+  -- the first digit
+  module _ (ha : digit_at text at < 10) where
+    pub decimal_one : 10 ≤ digit_at text (at + 1) → number (digit_at text at) (at + 1) ≡ decimal_at text at
     unfolding decimal_at
-    decimal_three hd =
-        rw (ea, eb, ec)
-        (sym
-        (when-passes _ _ _ (decimal_yes text at (rw ea at ha)) ∙ when-passes _ _ _ (decimal_yes text (at + 1) (rw eb at hb))
-        ∙ when-false _ _ _ (ne_eqb (digit_at text at) 0 (rw ea at na)) ∙ when-passes _ _ _ (decimal_yes text (at + 2) (rw ec at hc))
-        ∙ when_stops _ _ _ (decimal_no text (at + 3) (rw ed at hd))))
+    decimal_one hb = sym (when-passes _ _ _ (decimal_yes text at ha) ∙ when_stops _ _ _ (decimal_no text (at + 1) hb))
 
-    pub decimal_four : d < 10 → Nothing ≡ decimal_at text at
-    unfolding decimal_at
-    decimal_four hd =
-        sym
-        (when-passes _ _ _ (decimal_yes text at (rw ea at ha)) ∙ when-passes _ _ _ (decimal_yes text (at + 1) (rw eb at hb))
-        ∙ when-false _ _ _ (ne_eqb (digit_at text at) 0 (rw ea at na)) ∙ when-passes _ _ _ (decimal_yes text (at + 2) (rw ec at hc))
-        ∙ when-passes _ _ _ (decimal_yes text (at + 3) (rw ed at hd)))
+    -- and the second
+    module _ (hb : digit_at text (at + 1) < 10) where
+      pub decimal_leading : digit_at text at ≡ 0 → None ≡ decimal_at text at
+      unfolding decimal_at
+      decimal_leading z =
+          sym
+          (when-passes _ _ _ (decimal_yes text at ha) ∙ when-passes _ _ _ (decimal_yes text (at + 1) hb)
+          ∙ when-true _ _ _ (eq-eqb (digit_at text at) 0 z))
 
--- a digit lies inside the text
-pub decimal-inside : (text : List ℕ) (at : ℕ) {a : ℕ} → a ≡ digit_at text at → a < 10 → at < length text
-decimal-inside text at ea h = digit_inside text at (omega arith)
+      module _ (na : digit_at text at ≢ 0) where
+        pub decimal_two : 10 ≤ digit_at text (at + 2) → number (10 * digit_at text at + digit_at text (at + 1)) (at + 2) ≡ decimal_at text at
+        unfolding decimal_at
+        decimal_two hc =
+            sym
+            (when-passes _ _ _ (decimal_yes text at ha) ∙ when-passes _ _ _ (decimal_yes text (at + 1) hb)
+            ∙ when-false _ _ _ (ne_eqb (digit_at text at) 0 na) ∙ when_stops _ _ _ (decimal_no text (at + 2) hc))
+
+        module _ (hc : digit_at text (at + 2) < 10) where
+          pub decimal_three : 10 ≤ digit_at text (at + 3)
+              → number (100 * digit_at text at + 10 * digit_at text (at + 1) + digit_at text (at + 2)) (at + 3) ≡ decimal_at text at
+          unfolding decimal_at
+          decimal_three hd =
+              sym
+              (when-passes _ _ _ (decimal_yes text at ha) ∙ when-passes _ _ _ (decimal_yes text (at + 1) hb)
+              ∙ when-false _ _ _ (ne_eqb (digit_at text at) 0 na) ∙ when-passes _ _ _ (decimal_yes text (at + 2) hc)
+              ∙ when_stops _ _ _ (decimal_no text (at + 3) hd))
+
+          pub decimal_four : digit_at text (at + 3) < 10 → None ≡ decimal_at text at
+          unfolding decimal_at
+          decimal_four hd =
+              sym
+              (when-passes _ _ _ (decimal_yes text at ha) ∙ when-passes _ _ _ (decimal_yes text (at + 1) hb)
+              ∙ when-false _ _ _ (ne_eqb (digit_at text at) 0 na) ∙ when-passes _ _ _ (decimal_yes text (at + 2) hc)
+              ∙ when-passes _ _ _ (decimal_yes text (at + 3) hd))
+
+-- each way to a decimal, or to none; and each digit lies inside the text
+pub ruleset decimal_laws = (decimal_none, decimal_one, decimal_leading, decimal_two, decimal_three, decimal_four, digit_inside)
 
 -- ---- the bytes of a decimal
 
@@ -122,6 +122,8 @@ put_long l l' at v r b h w er el eb =
     let n : length (decimal v) ≡ length (decimal (v / 10)) + 1 = length_long v h w in
     (omega arith, rw (decimal_long v h w, put_at_more l at (decimal (v / 10)) (digit_byte (v % 10)), er, el, eb) refl)
 
+pub ruleset put_laws = (length_short, length_long, put_short, put_long)
+
 few_digits : (k v : ℕ) → length (decimal_of k v) ≤ k
 unfolding decimal_of
 few_digits zero v = omega arith
@@ -134,3 +136,5 @@ few_digits (suc k) v =
 pub length-decimal : (v : ℕ) → length (decimal v) ≤ 20
 unfolding decimal
 length-decimal v = few_digits 20 v
+
+pub ruleset length_laws = (length_short, length_long, length-decimal)

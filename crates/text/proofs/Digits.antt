@@ -58,6 +58,8 @@ module _ (b : ℕ) where
   pub digit_le : digit_of b ≤ 16
   digit_le = digit-cases (λ l h (e : digit_of b ≡ b - 48). omega arith) (λ l h (e : digit_of b ≡ b - 87). omega arith) (λ (e : digit_of b ≡ 16). omega arith)
 
+pub ruleset digit_laws = (digit_low, digit_decimal, digit_between, digit_letter, digit_high)
+
 pub byte_decimal : (d : ℕ) → d < 10 → digit_byte d ≡ 48 + d
 unfolding digit_byte
 byte_decimal d h = when-true (ltb d 10) (48 + d) (87 + d) (lt-ltb d 10 h)
@@ -65,6 +67,8 @@ byte_decimal d h = when-true (ltb d 10) (48 + d) (87 + d) (lt-ltb d 10 h)
 pub byte_letter : (d : ℕ) → 10 ≤ d → digit_byte d ≡ 87 + d
 unfolding digit_byte
 byte_letter d h = when-false (ltb d 10) (48 + d) (87 + d) (le-ltb d 10 h)
+
+pub ruleset byte_laws = (byte_decimal, byte_letter)
 
 -- what was written is read back
 pub digit_back : (d : ℕ) → d < 16 → digit_of (digit_byte d) ≡ d

@@ -1,15 +1,33 @@
 -- Runs of bytes written one after another.
 -- Assumes nothing.
 use mathlib.Core.Path.{◌≡◌, refl, sym, ◌∙◌, ap}
-use mathlib.Core.List.{List, [], ◌++◌}
-use Prim.Native.Nat.{ℕ, ◌+◌, ◌≤◌}
+use mathlib.Core.List.{List, [], ◌∷◌, ◌++◌}
+use Prim.Native.Nat.{ℕ, suc, ◌+◌, ◌≤◌}
 use native.Mathlib.Nat.{add-zero}
 use native.Mathlib.Omega.{arith}
-use lib.ListN.{length, length-append}
+use lib.ListN.{length, set, take, drop, length-append}
+use Rattle.std.proofs.Common.{append_assoc}
+use borrow.Rule.Slice.PartMut.{put_mid}
+use Rattle.std.proofs.lemmas.Slice.{put_mid-paste}
+use Rattle.std.proofs.lemmas.List.Edits.{sets, sets-eq, paste_all}
 use Rattle.stores.specs.Stores.{put_at}
 use Rattle.stores.proofs.Stores.{put_at-append}
 use Rattle.text.specs.Decimal.{decimal}
 use Rattle.text.specs.Fixed.{comma, line_end}
+
+-- ---- a part of the list overwritten
+
+put_at-sets : (l : List ℕ) (at : ℕ) (vs : List ℕ) → put_at l at vs ≡ sets l at vs
+unfolding put_at
+put_at-sets l at [] = refl
+put_at-sets l at (v ∷ vs) = put_at-sets (set l at v) (suc at) vs
+
+pub put_part : (l : List ℕ) (at k : ℕ) (vs part : List ℕ) → part ≡ vs → k ≡ length vs → at + length vs ≤ length l → put_mid at k l part ≡ put_at l at vs
+put_part l at k vs part e n h =
+    put_mid-paste at k l part vs (length vs) e (sym n) refl ∙ paste_all l at vs (length vs) refl
+    ∙ sym (put_at-sets l at vs ∙ sets-eq vs l at h ∙ append_assoc (take at l) vs (drop (at + length vs) l))
+
+-- ---- one run after another
 
 -- the bytes xs, written from place `at` on, and the place after them
 abbrev pub Put : List ℕ → ℕ → List ℕ → List ℕ → ℕ → Type 0

@@ -9,10 +9,12 @@ use native.Mathlib.Nat.{add-zero}
 use native.Mathlib.Omega.{arith}
 use lib.ListN.{length, get_or}
 use Rattle.sets.proofs.Truth.{either, equal_or}
-use Rattle.text.specs.declared.decimal.Decimal.TheVariants.{Number, Nothing}
+use Rattle.std.specs.Prelude.{Option, None}
+use Rattle.std.specs.Option.{option_map_or}
+use Rattle.text.specs.declared.decimal.Decimal.{Decimal}
 use Rattle.text.specs.Digits.{digit_byte, digit_of, digit_at}
 use Rattle.text.specs.Fixed.{holds, comma, line_end}
-use Rattle.text.specs.Decimal.{decimal_at, decimal}
+use Rattle.text.specs.Decimal.{number, decimal_at, decimal}
 use Rattle.text.proofs.Digits.{digit_back, byte_back, digit_low, digit_inside}
 use Rattle.text.proofs.Bytes.{holds_at, holds_one, holds-append}
 use Rattle.text.proofs.Decimals.{decimal_none, decimal_one, decimal_leading, decimal_two, decimal_three, decimal_four, decimal_short, decimal_long}
@@ -99,18 +101,22 @@ decimal-length v h =
 
 -- what was written is read back, where no digit follows
 pub decimal_reads : (text : List ℕ) (at v : ℕ) → v < 1000 → So (holds text at (decimal v)) → 10 ≤ digit_at text (at + length (decimal v))
-    → decimal_at text at ≡ Number v (at + length (decimal v))
+    → decimal_at text at ≡ number v (at + length (decimal v))
 decimal_reads text at v h s k =
     decimal_lengths v h
     (λ l e.
     let x : length (decimal v) ≡ 1 = ap length e in
     let a0 : v ≡ digit_at text (at + 0) = held_digit text at (digit_byte v ∷ []) 0 v (rw e at s) (omega arith) refl (omega arith) in
-    rw x (sym (decimal_one text at (rw (add-zero at) at a0) l refl (rw x at k))))
+    let d0 : v ≡ digit_at text at = rw (add-zero at) at a0 in
+    let k1 : 10 ≤ digit_at text (at + 1) = rw x at k in
+    rw x (sym (rw d0 (decimal_one text at (omega arith) k1))))
     (λ a b n ha hb w e.
     let x : length (decimal v) ≡ 2 = ap length e in
     let a0 : a ≡ digit_at text (at + 0) = held_digit text at (digit_byte a ∷ digit_byte b ∷ []) 0 a (rw e at s) (omega arith) refl (omega arith) in
     let b0 : b ≡ digit_at text (at + 1) = held_digit text at (digit_byte a ∷ digit_byte b ∷ []) 1 b (rw e at s) (omega arith) refl (omega arith) in
-    rw (x, w) (sym (decimal_two text at (rw (add-zero at) at a0) ha n b0 hb refl (rw x at k))))
+    let d0 : a ≡ digit_at text at = rw (add-zero at) at a0 in
+    let k2 : 10 ≤ digit_at text (at + 2) = rw x at k in
+    rw (x, w) (sym (rw (d0, b0) (decimal_two text at (omega arith) (omega arith) (rw d0 at n) k2))))
     (λ a b c n ha hb hc w e.
     let x : length (decimal v) ≡ 3 = ap length e in
     let a0 : a ≡ digit_at text (at + 0) =
@@ -119,7 +125,9 @@ decimal_reads text at v h s k =
     held_digit text at (digit_byte a ∷ digit_byte b ∷ digit_byte c ∷ []) 1 b (rw e at s) (omega arith) refl (omega arith) in
     let c0 : c ≡ digit_at text (at + 2) =
     held_digit text at (digit_byte a ∷ digit_byte b ∷ digit_byte c ∷ []) 2 c (rw e at s) (omega arith) refl (omega arith) in
-    rw (x, w) (sym (decimal_three text at (rw (add-zero at) at a0) ha n b0 hb c0 hc refl (rw x at k))))
+    let d0 : a ≡ digit_at text at = rw (add-zero at) at a0 in
+    let k3 : 10 ≤ digit_at text (at + 3) = rw x at k in
+    rw (x, w) (sym (rw (d0, b0, c0) (decimal_three text at (omega arith) (omega arith) (rw d0 at n) (omega arith) k3))))
 
 -- what is read is what is written
 pub record DecimalRead (text : List ℕ) (at v next : ℕ) : Type 0 where
@@ -127,15 +135,16 @@ pub record DecimalRead (text : List ℕ) (at v next : ℕ) : Type 0 where
   pub there : So (holds text at (decimal v))
   pub place : next ≡ at + length (decimal v)
 
-module _ (text : List ℕ) (at v next : ℕ) (e : decimal_at text at ≡ Number v next) where
-  nothing_read : Nothing ≡ decimal_at text at → DecimalRead text at v next
+module _ (text : List ℕ) (at v next : ℕ) (e : decimal_at text at ≡ number v next) where
+  nothing_read : None ≡ decimal_at text at → DecimalRead text at v next
   nothing_read k = let z : ◌≡◌ {A = ℕ} 0 1 = cc in absurd (omega arith)
 
-  bytes_read : (w end : ℕ) (bytes : List ℕ) → Number w end ≡ decimal_at text at → w < 1000 → decimal w ≡ bytes → So (holds text at bytes)
+  bytes_read : (w end : ℕ) (bytes : List ℕ) → number w end ≡ decimal_at text at → w < 1000 → decimal w ≡ bytes → So (holds text at bytes)
       → end ≡ at + length bytes → DecimalRead text at v next
   bytes_read w end bytes k h d s l =
-      let p : w ≡ v = cc in
-      let q : end ≡ next = cc in
+      let r : number w end ≡ number v next = k ∙ e in
+      let p : w ≡ v = ap (λ (o : Option Decimal). option_map_or (λ d. d.value) o 0) r in
+      let q : end ≡ next = ap (λ (o : Option Decimal). option_map_or (λ d. d.next) o 0) r in
       let r : length (decimal v) ≡ length bytes = ap (λ (x : ℕ). length (decimal x)) (sym p) ∙ ap length d in
       let dv : decimal v ≡ bytes = ap decimal (sym p) ∙ d in
       record { small = omega arith; there = rw dv s; place = omega arith }
@@ -146,27 +155,27 @@ module _ (text : List ℕ) (at v next : ℕ) (e : decimal_at text at ≡ Number 
       (λ ha.
       either (digit_at text (at + 1)) 10
       (λ hb.
-      equal_or (digit_at text at) 0 (λ z. nothing_read (decimal_leading text at refl z refl hb))
+      equal_or (digit_at text at) 0 (λ z. nothing_read (decimal_leading text at ha hb z))
       (λ n.
       either (digit_at text (at + 2)) 10
       (λ hc.
       either (digit_at text (at + 3)) 10
-      (λ hd. nothing_read (decimal_four text at refl ha n refl hb refl hc refl hd))
+      (λ hd. nothing_read (decimal_four text at ha hb n hc hd))
       (λ hd.
       bytes_read (100 * digit_at text at + 10 * digit_at text (at + 1) + digit_at text (at + 2)) (at + 3)
       (digit_byte (digit_at text at) ∷ digit_byte (digit_at text (at + 1)) ∷ digit_byte (digit_at text (at + 2)) ∷ [])
-      (decimal_three text at refl ha n refl hb refl hc refl hd) (omega arith)
+      (decimal_three text at ha hb n hc hd) (omega arith)
       (decimal_of_three (digit_at text at) (digit_at text (at + 1)) (digit_at text (at + 2)) n ha hb hc)
       ((holds-append text at (digit_byte (digit_at text at) ∷ digit_byte (digit_at text (at + 1)) ∷ []) (digit_byte (digit_at text (at + 2)) ∷ [])).1
       (two_held ha hb, digit_held text (at + 2) refl (omega arith)))
       refl))
       (λ hc.
       bytes_read (10 * digit_at text at + digit_at text (at + 1)) (at + 2) (digit_byte (digit_at text at) ∷ digit_byte (digit_at text (at + 1)) ∷ [])
-      (decimal_two text at refl ha n refl hb refl hc) (omega arith) (decimal_of_two (digit_at text at) (digit_at text (at + 1)) n ha hb) (two_held ha hb) refl)))
+      (decimal_two text at ha hb n hc) (omega arith) (decimal_of_two (digit_at text at) (digit_at text (at + 1)) n ha hb) (two_held ha hb) refl)))
       (λ hb.
-      bytes_read (digit_at text at) (at + 1) (digit_byte (digit_at text at) ∷ []) (decimal_one text at refl ha refl hb) (omega arith)
+      bytes_read (digit_at text at) (at + 1) (digit_byte (digit_at text at) ∷ []) (decimal_one text at ha hb) (omega arith)
       (decimal_short (digit_at text at) ha) (digit_held text at refl (omega arith)) refl))
-      (λ ha. nothing_read (decimal_none text at refl ha))
+      (λ ha. nothing_read (decimal_none text at ha))
     where
       two_held : digit_at text at < 10 → digit_at text (at + 1) < 10
           → So (holds text at (digit_byte (digit_at text at) ∷ digit_byte (digit_at text (at + 1)) ∷ []))

@@ -3,12 +3,10 @@
 
 mod decimal;
 mod digit;
-mod field;
 mod fixed;
 mod line;
 
 pub use decimal::{Decimal, decimal_length, put_decimal, read_decimal};
 pub use digit::{digit_at, digit_byte};
-pub use field::Field;
 pub use fixed::{put_bytes, read_fixed, read_line_end};
 pub use line::put_first_line;

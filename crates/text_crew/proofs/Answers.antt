@@ -14,22 +14,23 @@ use borrow.Author.Tests.{eq-eqb, ne_eqb, le-leb, lt-leb}
 use lib.Pow.{pow_pos}
 use Rattle.sets.specs.Sets.{subset, collect}
 use Rattle.sets.proofs.Truth.{same_test, ltb_iff, when-true, when-false, when-passes, when_stops}
-use Rattle.sets.proofs.Items.{item_below}
+use Rattle.sets.proofs.Members.{item_below}
 use Rattle.sets.proofs.Order.{subset_iff, subset-≤, collect_iff}
 use Rattle.sets.proofs.Below.{collect-below}
 use Rattle.text_sets.specs.Hexadecimal.{hexadecimal_value}
 use Rattle.stores.specs.Stores.{put_at}
 use Rattle.tables.specs.Stores.{words_of}
 use Rattle.text_lines.specs.Format.{digits_for}
-use Rattle.text_crew.specs.declared.CrewRead.{CrewRead}
+use Rattle.std.specs.Prelude.{Option, Some, None, Result, Ok, Err}
+use Rattle.refusals.specs.declared.Refusal.{Refusal}
+use Rattle.refusals.specs.declared.Refusal.TheVariants.{Crew, Text}
+use Rattle.refusals.specs.Numbers.{number_of}
 use Rattle.text_lines.specs.declared.header.Header.{Header}
-use Rattle.text_lines.specs.declared.header.Header.TheVariants.{Crew, Malformed, Beyond}
-use Rattle.text_lines.specs.declared.row.Row.{Row}
-use Rattle.text_lines.specs.declared.row.Row.TheVariants.{Digits, Broken}
-use Rattle.text_crew.specs.declared.rows.RowsEnd.TheVariants.{End, BadForm, BadBit}
-use Rattle.text_crew.specs.Reader.{longest_text, buffer_length, Read, rows_read, bad_form, bad_bit, with_row, next_row, rows_to, laid, rows_end, RowsLaid, ReadReply, read_refused, read_result, after_rows, after_header, read_crew}
+use Rattle.text_crew.specs.Reader.{longest_text, buffer_length, Read, rows_read, bad_form, bad_bit, with_row, next_row, rows_to, laid, rows_end, RowsLaid, ReadReply, read_refused, after_rows, after_header, read_crew}
 use Rattle.text_lines.specs.Lines.{row_digits_at, header_at}
 use Rattle.sets.proofs.Telling.{said_no, said_yes}
+use Rattle.model.proofs.Record.{within_limits_iff}
+use Rattle.text_lines.proofs.Forms.{header_form}
 use Rattle.text_crew.proofs.Laid.{laid_more}
 
 -- ---- no bit at m or above
@@ -80,11 +81,11 @@ unfolding rows_to
 fill_none text m start words e = record { rows = []; read = refl; count = refl; held = e }
 
 module _ (text : List ℕ) (m start u at : ℕ) (words : List ℕ) (f : Filling text m start u at words) where
-  step : (o : Row) → row_digits_at text (digits_for m) u at ≡ o → rows_to text m start (suc u) ≡ with_row text m f.rows o
+  step : (o : Option ℕ) → row_digits_at text (digits_for m) u at ≡ o → rows_to text m start (suc u) ≡ with_row text m f.rows o
   unfolding rows_to next_row
   step o e = rw (f.read, e) refl
 
-  pub fill_more : (digits s : ℕ) (after : List ℕ) → u < 128 → row_digits_at text (digits_for m) u at ≡ Digits digits
+  pub fill_more : (digits s : ℕ) (after : List ℕ) → u < 128 → row_digits_at text (digits_for m) u at ≡ Some digits
       → s ≡ hexadecimal_value (digits_for m) text digits → So (ltb s (2 ^ m))
       → after ≡ put_at words (4 * u) (words_of 4 s)
       → Filling text m start (u + 1) (digits + digits_for m + 1) after
@@ -92,51 +93,47 @@ module _ (text : List ℕ) (m start u at : ℕ) (words : List ℕ) (f : Filling 
   fill_more digits s after h e es k w =
       record {
         rows = f.rows ++ (s ∷ []);
-        read = rw (add-one u, step (Digits digits) e, ← es) (when-true _ _ _ k);
+        read = rw (add-one u, step (Some digits) e, ← es) (when-true _ _ _ k);
         count = let n : length (f.rows ++ (s ∷ [])) ≡ length f.rows + 1 = length-append f.rows (s ∷ []) in omega (arith, f.count);
         held = w ∙ rw f.held (laid_more f.rows u s f.count h);
       }
 
-  pub fill_broken : (n : ℕ) (after : List ℕ) → u < n → row_digits_at text (digits_for m) u at ≡ Broken
-      → (BadForm ≡ rows_end (rows_to text m start n)) × RowsLaid (rows_to text m start n) after
+  pub fill_broken : (n : ℕ) (after : List ℕ) → u < n → row_digits_at text (digits_for m) u at ≡ None
+      → (Err Text ≡ rows_end (rows_to text m start n)) × RowsLaid (rows_to text m start n) after
   unfolding with_row rows_end RowsLaid
   fill_broken n after h e =
       let k : suc u + (n - suc u) ≡ n = omega arith in
-      let r : rows_to text m start n ≡ bad_form = rw k at (form_stays text m start u (step Broken e) (n - suc u)) in
+      let r : rows_to text m start n ≡ bad_form = rw k at (form_stays text m start u (step None e) (n - suc u)) in
       rw r (refl, tt)
 
-  pub fill_bit : (n digits s : ℕ) (after : List ℕ) → u < n → row_digits_at text (digits_for m) u at ≡ Digits digits
+  pub fill_bit : (n digits s : ℕ) (after : List ℕ) → u < n → row_digits_at text (digits_for m) u at ≡ Some digits
       → s ≡ hexadecimal_value (digits_for m) text digits → ltb s (2 ^ m) ≡ false
-      → (BadBit ≡ rows_end (rows_to text m start n)) × RowsLaid (rows_to text m start n) after
+      → (Err Crew ≡ rows_end (rows_to text m start n)) × RowsLaid (rows_to text m start n) after
   unfolding with_row rows_end RowsLaid
   fill_bit n digits s after h e es b =
       let k : suc u + (n - suc u) ≡ n = omega arith in
-      let q : rows_to text m start (suc u) ≡ bad_bit = rw (step (Digits digits) e, ← es) (when-false _ _ _ b) in
+      let q : rows_to text m start (suc u) ≡ bad_bit = rw (step (Some digits) e, ← es) (when-false _ _ _ b) in
       let r : rows_to text m start n ≡ bad_bit = rw k at (bit_stays text m start u q (n - suc u)) in
       rw r (refl, tt)
 
-  pub fill_all : (End at ≡ rows_end (rows_to text m start u)) × RowsLaid (rows_to text m start u) words
+  pub fill_all : (Ok at ≡ rows_end (rows_to text m start u)) × RowsLaid (rows_to text m start u) words
   unfolding rows_end RowsLaid
   fill_all = rw f.read (refl, f.held)
 
 -- ---- the answer
 
-pub refused_is : (r : CrewRead) (k : ℕ) (buffer : List ℕ) → (r.code ≡ k) × (r.n ≡ 0) × (r.m ≡ 0) → read_result r buffer ≡ read_refused k buffer
-unfolding read_result read_refused
-refused_is r k buffer e = rw (e.0, e.1, e.2) refl
-
 module _ (text buffer : List ℕ) (n m : ℕ) where
-  pub after_more : (o : Read) (at : ℕ) → End at ≡ rows_end o → at ≢ length text → read_refused 10 buffer ≡ after_rows text buffer n m o
+  pub after_more : (o : Read) (at : ℕ) → Ok at ≡ rows_end o → at ≢ length text → read_refused 10 buffer ≡ after_rows text buffer n m o
   unfolding rows_end after_rows
   after_more (rows_read rows end) at e h =
       let p : at ≡ end = cc in
       sym
       (when-false (eqb end (length text)) (record { code = 0; n = n; m = m; words = laid rows }) (read_refused 10 buffer)
       (ne_eqb end (length text) (λ (q : end ≡ length text). h (p ∙ q))))
-  after_more bad_form at e h = let z : ◌≡◌ {A = ℕ} 0 1 = cc in absurd (omega arith)
-  after_more bad_bit at e h = let z : ◌≡◌ {A = ℕ} 0 1 = cc in absurd (omega arith)
+  after_more bad_form at e h = let no : ⊥ = grind arith in absurd no
+  after_more bad_bit at e h = let no : ⊥ = grind arith in absurd no
 
-  pub after_all : (o : Read) (at : ℕ) (words : List ℕ) → End at ≡ rows_end o → RowsLaid o words → at ≡ length text
+  pub after_all : (o : Read) (at : ℕ) (words : List ℕ) → Ok at ≡ rows_end o → RowsLaid o words → at ≡ length text
       → ◌≡◌ {A = ReadReply} (record { code = 0; n = n; m = m; words = words }) (after_rows text buffer n m o)
   unfolding rows_end after_rows RowsLaid
   after_all (rows_read rows end) at words e f h =
@@ -145,20 +142,14 @@ module _ (text buffer : List ℕ) (n m : ℕ) where
       (sym
       (when-true (eqb end (length text)) (record { code = 0; n = n; m = m; words = laid rows }) (read_refused 10 buffer)
       (eq-eqb end (length text) (sym p ∙ h))))
-  after_all bad_form at words e f h = let z : ◌≡◌ {A = ℕ} 0 1 = cc in absurd (omega arith)
-  after_all bad_bit at words e f h = let z : ◌≡◌ {A = ℕ} 0 1 = cc in absurd (omega arith)
+  after_all bad_form at words e f h = let no : ⊥ = grind arith in absurd no
+  after_all bad_bit at words e f h = let no : ⊥ = grind arith in absurd no
 
-  pub after_form : (o : Read) → BadForm ≡ rows_end o → read_refused 10 buffer ≡ after_rows text buffer n m o
+  pub after_fault : (o : Read) (r : Refusal) → Err r ≡ rows_end o → read_refused (number_of r) buffer ≡ after_rows text buffer n m o
   unfolding rows_end after_rows
-  after_form (rows_read rows end) e = let z : ◌≡◌ {A = ℕ} 0 1 = cc in absurd (omega arith)
-  after_form bad_form e = refl
-  after_form bad_bit e = let z : ◌≡◌ {A = ℕ} 0 1 = cc in absurd (omega arith)
-
-  pub after_bit : (o : Read) → BadBit ≡ rows_end o → read_refused 3 buffer ≡ after_rows text buffer n m o
-  unfolding rows_end after_rows
-  after_bit (rows_read rows end) e = let z : ◌≡◌ {A = ℕ} 0 1 = cc in absurd (omega arith)
-  after_bit bad_form e = let z : ◌≡◌ {A = ℕ} 0 1 = cc in absurd (omega arith)
-  after_bit bad_bit e = refl
+  after_fault (rows_read rows end) r e = let no : ⊥ = grind arith in absurd no
+  after_fault bad_form r e = let p : r ≡ Text = cc in rw p refl
+  after_fault bad_bit r e = let p : r ≡ Crew = cc in rw p refl
 
 module _ (text buffer : List ℕ) where
   pub wrong_buffer : length buffer ≢ buffer_length → read_refused 3 buffer ≡ read_crew text buffer
@@ -171,20 +162,24 @@ module _ (text buffer : List ℕ) where
     too_long h = sym (when-passes _ _ _ (eq-eqb (length buffer) buffer_length b) ∙ when_stops _ _ _ (lt-leb (length text) longest_text h))
 
     module _ (l : length text ≤ longest_text) where
-      by_header : {h : Header} → header_at text ≡ h → after_header text buffer h ≡ read_crew text buffer
+      by_header : {h : Result Header Refusal} → header_at text ≡ h → after_header text buffer h ≡ read_crew text buffer
       unfolding read_crew
       by_header e =
           sym
           (when-passes _ _ _ (eq-eqb (length buffer) buffer_length b) ∙ when-passes _ _ _ (le-leb (length text) longest_text l) ∙ ap (after_header text buffer) e)
 
-      pub by_crew : {n m at : ℕ} → header_at text ≡ Crew n m at → after_rows text buffer n m (rows_to text m at n) ≡ read_crew text buffer
+      pub by_crew : (h : Header) → header_at text ≡ Ok h → after_rows text buffer h.n h.m (rows_to text h.m h.next h.n) ≡ read_crew text buffer
       unfolding after_header
-      by_crew e = by_header e
+      by_crew h e = by_header e
 
-      pub by_malformed : header_at text ≡ Malformed → read_refused 10 buffer ≡ read_crew text buffer
+      pub by_refusal : (r : Refusal) → header_at text ≡ Err r → read_refused (number_of r) buffer ≡ read_crew text buffer
       unfolding after_header
-      by_malformed e = by_header e
+      by_refusal r e = by_header e
 
-      pub by_beyond : header_at text ≡ Beyond → read_refused 2 buffer ≡ read_crew text buffer
-      unfolding after_header
-      by_beyond e = by_header e
+-- the reader's answers, and what the limits of a header leave to its rows
+pub header_small : (text : List ℕ) (h : Header) → header_at text ≡ Ok h → (h.n ≤ 128) × (h.m ≤ 256)
+header_small text h e = let k = (within_limits_iff h.n h.m).0 (header_form text h e).1 in (k.1, k.3)
+
+pub ruleset reader_laws = (wrong_buffer, too_long, by_crew, by_refusal, header_small)
+
+pub ruleset rows_laws = (after_more, after_all, after_fault)

@@ -15,27 +15,24 @@ use Rattle.sets.proofs.Truth.{all_is, all_of, ltb_iff, either, equal_or, below_s
 use Rattle.model.specs.Lists.{rows_at}
 use Rattle.model.specs.State.{within_limits, rows_within}
 use Rattle.model.proofs.Lists.{set_at_words, length-rows_at, get_d_rows_at}
-use Rattle.text.specs.declared.decimal.Decimal.TheVariants.{Number}
+use Rattle.std.specs.Prelude.{Option, Some, None, Ok}
 use Rattle.text.specs.Fixed.{holds, comma, line_end}
-use Rattle.text.specs.Decimal.{decimal_at, decimal}
+use Rattle.text.specs.Decimal.{number, decimal_at, decimal}
 use Rattle.text_sets.specs.Hexadecimal.{hexadecimal_value, hexadecimal}
 use Rattle.text.proofs.Bytes.{holds_iff, holds-append, holds_whole, holds_self, holds_end}
 use Rattle.text_sets.proofs.Hexadecimals.{sixteen, length-hexadecimal}
 use Rattle.text.proofs.Written.{comma_parts, line_parts, decimal_reads, decimal_writes}
 use Rattle.text_sets.proofs.Written.{hex_there, hex_reads, hex_writes}
 use Rattle.text_lines.specs.Format.{crew_word, digits_for, header_line, row_line, row_lines, crew_text}
-use Rattle.text_lines.specs.declared.header.Header.{Header}
-use Rattle.text_lines.specs.declared.header.Header.TheVariants.{Crew, Malformed, Beyond}
-use Rattle.text_lines.specs.declared.row.Row.{Row}
-use Rattle.text_lines.specs.declared.row.Row.TheVariants.{Digits, Broken}
+use Rattle.refusals.specs.declared.Refusal.TheVariants.{Limits, Text}
 use Rattle.text_crew.specs.Reader.{longest_text, buffer_length, Read, rows_read, bad_form, bad_bit, with_row, next_row, rows_to, laid, ReadReply, read_refused, after_rows, read_crew}
-use Rattle.text_lines.specs.Lines.{limited, header_at, row_digits_at}
+use Rattle.text_lines.specs.Lines.{crew_header, limited, header_fields, header_at, row_digits_at}
 use Rattle.model.proofs.Record.{within_limits_iff}
-use Rattle.text_lines.proofs.Lines.{limits_kept_lem, header_whole, row_whole}
-use Rattle.text_lines.proofs.Forms.{HeaderForm, header_form, row_form}
+use Rattle.text_lines.proofs.Lines.{limits_kept_lem, fields_held, row_held}
+use Rattle.text_lines.proofs.Forms.{HeaderForm, header_form, header_cases, row_form}
 use Rattle.text_lines.proofs.Lengths.{length_header, length_row, length-crew_text}
 use Rattle.text_crew.proofs.Laid.{get_d_laid}
-use Rattle.text_crew.proofs.Answers.{wrong_buffer, too_long, by_crew, by_malformed, by_beyond}
+use Rattle.text_crew.proofs.Answers.{wrong_buffer, too_long, by_crew, by_refusal}
 
 -- 16 to the number of digits is enough for m bits
 pub digits_enough : (m s : ℕ) → s < 2 ^ m → s < 16 ^ digits_for m
@@ -48,29 +45,30 @@ digits_enough m s h =
 -- ---- a canonical line is read
 
 module _ (text : List ℕ) (n m : ℕ) (ln : n < 1000) (lm : m < 1000) (h : So (holds text 0 (header_line n m))) where
-  pub header_reads : header_at text ≡ limited n m (length (header_line n m))
+  pub header_reads : header_fields text ≡ Some (crew_header n m (length (header_line n m)))
   unfolding header_line
   header_reads =
       let a = (holds-append text 0 crew_word (decimal n ++ (comma ++ (decimal m ++ line_end)))).0 h in
       let b = (holds-append text 5 (decimal n) (comma ++ (decimal m ++ line_end))).0 a.1 in
       let c = (holds-append text (5 + length (decimal n)) comma (decimal m ++ line_end)).0 b.1 in
       let d = (holds-append text (5 + length (decimal n) + 1) (decimal m) line_end).0 c.1 in
-      let p : decimal_at text 5 ≡ Number n (5 + length (decimal n)) =
+      let p : decimal_at text 5 ≡ number n (5 + length (decimal n)) =
       decimal_reads text 5 n ln b.0 (comma_parts text (5 + length (decimal n)) c.0) in
-      let q : decimal_at text (5 + length (decimal n) + 1) ≡ Number m (5 + length (decimal n) + 1 + length (decimal m)) =
+      let q : decimal_at text (5 + length (decimal n) + 1) ≡ number m (5 + length (decimal n) + 1 + length (decimal m)) =
       decimal_reads text (5 + length (decimal n) + 1) m lm d.0 (line_parts text (5 + length (decimal n) + 1 + length (decimal m)) d.1) in
-      sym (header_whole text a.0 p c.0 q d.1) ∙ ap (limited n m) (sym (length_header n m))
+      sym (fields_held text a.0 p c.0 q d.1) ∙ ap (λ (x : ℕ). Some (crew_header n m x)) (sym (length_header n m))
 
 pub header_read : (text : List ℕ) (n m : ℕ) → So (within_limits n m) → So (holds text 0 (header_line n m))
-    → header_at text ≡ Crew n m (length (header_line n m))
+    → header_at text ≡ Ok (crew_header n m (length (header_line n m)))
+unfolding header_at
 header_read text n m l h =
     let k = (within_limits_iff n m).0 l in
     let ln : n ≤ 128 = k.1 in
     let lm : m ≤ 256 = k.3 in
-    header_reads text n m (omega arith) (omega arith) h ∙ sym (limits_kept_lem n m (length (header_line n m)) l)
+    ap limited (header_reads text n m (omega arith) (omega arith) h) ∙ limits_kept_lem (crew_header n m (length (header_line n m))) l
 
 module _ (text : List ℕ) (m u at s : ℕ) (l : u < 1000) (b : s < 16 ^ digits_for m) (h : So (holds text at (row_line m u s))) where
-  pub row_read : (row_digits_at text (digits_for m) u at ≡ Digits (at + length (decimal u) + 1)) × (hexadecimal_value (digits_for m) text (at + length (decimal u) + 1) ≡ s)
+  pub row_read : (row_digits_at text (digits_for m) u at ≡ Some (at + length (decimal u) + 1)) × (hexadecimal_value (digits_for m) text (at + length (decimal u) + 1) ≡ s)
   unfolding row_line
   row_read =
       let d : ℕ = digits_for m in
@@ -78,13 +76,13 @@ module _ (text : List ℕ) (m u at s : ℕ) (l : u < 1000) (b : s < 16 ^ digits_
       let c = (holds-append text (at + length (decimal u)) comma (hexadecimal (digits_for m) s ++ line_end)).0 a.1 in
       let e = (holds-append text (at + length (decimal u) + 1) (hexadecimal (digits_for m) s) line_end).0 c.1 in
       let n : length (hexadecimal (digits_for m) s) ≡ digits_for m = length-hexadecimal (digits_for m) s in
-      let p : decimal_at text at ≡ Number u (at + length (decimal u)) =
+      let p : decimal_at text at ≡ number u (at + length (decimal u)) =
       decimal_reads text at u l a.0 (comma_parts text (at + length (decimal u)) c.0) in (
-        sym (row_whole text (digits_for m) u at p refl c.0 (hex_there (digits_for m) text (at + length (decimal u) + 1) s b e.0) (rw n at e.1)),
+        sym (row_held text (digits_for m) u at p refl c.0 (hex_there (digits_for m) text (at + length (decimal u) + 1) s b e.0) (rw n at e.1)),
         hex_reads (digits_for m) text (at + length (decimal u) + 1) s b e.0,
       )
 
-add_read : (text : List ℕ) (m u : ℕ) (xs : List ℕ) (p digits s : ℕ) → row_digits_at text (digits_for m) u p ≡ Digits digits
+add_read : (text : List ℕ) (m u : ℕ) (xs : List ℕ) (p digits s : ℕ) → row_digits_at text (digits_for m) u p ≡ Some digits
     → hexadecimal_value (digits_for m) text digits ≡ s → So (ltb s (2 ^ m))
     → next_row text m u (rows_read xs p) ≡ rows_read (xs ++ (s ∷ [])) (digits + digits_for m + 1)
 unfolding next_row with_row
@@ -123,7 +121,7 @@ read_back n m rows buffer l c w b =
     let ln : n ≤ 128 = k.1 in
     let lm : m ≤ 256 = k.3 in
     let a = (holds-append (header_line n m ++ row_lines m rows n) 0 (header_line n m) (row_lines m rows n)).0 (holds_self (header_line n m ++ row_lines m rows n)) in
-    let p : header_at (header_line n m ++ row_lines m rows n) ≡ Crew n m (length (header_line n m)) =
+    let p : header_at (header_line n m ++ row_lines m rows n) ≡ Ok (crew_header n m (length (header_line n m))) =
     header_read (header_line n m ++ row_lines m rows n) n m l a.0 in
     let q : rows_to (header_line n m ++ row_lines m rows n) m (length (header_line n m)) n ≡ rows_read (take n rows) (length (header_line n m) + length (row_lines m rows n)) =
     rows_read_lem (header_line n m ++ row_lines m rows n) m (length (header_line n m)) rows n (omega arith) ln
@@ -131,7 +129,7 @@ read_back n m rows buffer l c w b =
     (rw (zero-add (length (header_line n m))) at a.1) in
     let t : take n rows ≡ rows = take_all n rows (omega arith) in
     let small : length (header_line n m ++ row_lines m rows n) ≤ 8735 = length-crew_text n m rows ln lm in
-    sym (by_crew (header_line n m ++ row_lines m rows n) buffer b (omega arith) p)
+    sym (by_crew (header_line n m ++ row_lines m rows n) buffer b (omega arith) _ p)
     ∙ ap (after_rows (header_line n m ++ row_lines m rows n) buffer n m) (q ∙ ap (λ (x : List ℕ). rows_read x (length (header_line n m) + length (row_lines m rows n))) t)
     ∙ whole_read (header_line n m ++ row_lines m rows n) buffer n m rows (length (header_line n m) + length (row_lines m rows n)) (sym (length-append (header_line n m) (row_lines m rows n)))
 
@@ -163,7 +161,7 @@ same_lines m xs ys zero h = refl
 same_lines m xs ys (suc n) h = rw (same_lines m xs ys n (λ u l. h u (omega arith)), h n (omega arith)) refl
 
 -- a row that was read, written again
-module _ (text : List ℕ) (m u at digits s : ℕ) (e : row_digits_at text (digits_for m) u at ≡ Digits digits) (es : s ≡ hexadecimal_value (digits_for m) text digits) where
+module _ (text : List ℕ) (m u at digits s : ℕ) (e : row_digits_at text (digits_for m) u at ≡ Some digits) (es : s ≡ hexadecimal_value (digits_for m) text digits) where
   pub row_written : So (holds text at (row_line m u s)) × (digits ≡ at + length (decimal u) + 1)
   unfolding row_line
   row_written =
@@ -206,7 +204,7 @@ none_written text m at rows end h e =
 
 -- one row more, after those before it
 one_written : (text : List ℕ) (m at u : ℕ) (xs : List ℕ) (p digits s : ℕ) → RowsWritten text m at u xs p
-    → row_digits_at text (digits_for m) u p ≡ Digits digits
+    → row_digits_at text (digits_for m) u p ≡ Some digits
     → s ≡ hexadecimal_value (digits_for m) text digits → s < 2 ^ m → RowsWritten text m at (suc u) (xs ++ (s ∷ [])) (digits + digits_for m + 1)
 unfolding row_lines
 one_written text m at u xs p digits s f e es b =
@@ -230,7 +228,7 @@ one_written text m at u xs p digits s f e es b =
 
 -- the ways to read one row more
 module _ (text : List ℕ) (m at u : ℕ) (rows : List ℕ) (end : ℕ) where
-  by_bits : (xs : List ℕ) (p digits : ℕ) → RowsWritten text m at u xs p → row_digits_at text (digits_for m) u p ≡ Digits digits
+  by_bits : (xs : List ℕ) (p digits : ℕ) → RowsWritten text m at u xs p → row_digits_at text (digits_for m) u p ≡ Some digits
       → So (ltb (hexadecimal_value (digits_for m) text digits) (2 ^ m))
       → rows_read (xs ++ (hexadecimal_value (digits_for m) text digits ∷ [])) (digits + digits_for m + 1) ≡ rows_read rows end
       → RowsWritten text m at (suc u) rows end
@@ -240,15 +238,15 @@ module _ (text : List ℕ) (m at u : ℕ) (rows : List ℕ) (end : ℕ) where
       let w : digits + digits_for m + 1 ≡ end = cc in
       rw (v, w) at g
 
-  by_row : (xs : List ℕ) (p : ℕ) → RowsWritten text m at u xs p → (o : Row) → row_digits_at text (digits_for m) u p ≡ o
+  by_row : (xs : List ℕ) (p : ℕ) → RowsWritten text m at u xs p → (o : Option ℕ) → row_digits_at text (digits_for m) u p ≡ o
       → with_row text m xs o ≡ rows_read rows end
       → RowsWritten text m at (suc u) rows end
   unfolding with_row
-  by_row xs p f (Digits digits) e k =
+  by_row xs p f (Some digits) e k =
       let s = hexadecimal_value (digits_for m) text digits in
       when_cases (ltb s (2 ^ m)) (rows_read (xs ++ (s ∷ [])) (digits + digits_for m + 1)) bad_bit (rows_read rows end) k (by_bits xs p digits f e)
       (λ t. λ (g : bad_bit ≡ rows_read rows end). let z : ◌≡◌ {A = ℕ} 0 1 = cc in absurd (omega arith))
-  by_row xs p f Broken e k = let z : ◌≡◌ {A = ℕ} 0 1 = cc in absurd (omega arith)
+  by_row xs p f None e k = let z : ◌≡◌ {A = ℕ} 0 1 = cc in absurd (omega arith)
 
   by_rows : (o : Read) → ((xs : List ℕ) (p : ℕ) → o ≡ rows_read xs p → RowsWritten text m at u xs p) → next_row text m u o ≡ rows_read rows end
       → RowsWritten text m at (suc u) rows end
@@ -299,11 +297,11 @@ unfolding read_refused
 refused_not text buffer k e z = let y : suc k ≡ 0 = ap (λ (x : ReadReply). x.code) e ∙ z in absurd (omega arith)
 
 module _ (text buffer : List ℕ) (z : (read_crew text buffer).code ≡ 0) where
-  all_rows : (n m at : ℕ) → header_at text ≡ Crew n m at → (rows : List ℕ) (end : ℕ) → rows_to text m at n ≡ rows_read rows end
+  all_rows : (n m at : ℕ) → header_at text ≡ Ok (crew_header n m at) → (rows : List ℕ) (end : ℕ) → rows_to text m at n ≡ rows_read rows end
       → record { code = 0; n = n; m = m; words = laid rows } ≡ read_crew text buffer → end ≡ length text → AcceptedText text buffer
   unfolding crew_text rows_within
   all_rows n m at e rows end r a l =
-      let f = header_form text n m at e in
+      let f = header_form text (crew_header n m at) e in
       let h = header_written text n m at f.0 in
       let p : at ≡ length (header_line n m) = h.1 in
       let hl : 0 + length (header_line n m) ≤ length text = holds_end text 0 (header_line n m) h.0 in
@@ -324,7 +322,7 @@ module _ (text buffer : List ℕ) (z : (read_crew text buffer).code ≡ 0) where
         canonical = holds_whole text (header_line n m ++ row_lines m rows n) ((holds-append text 0 (header_line n m) (row_lines m rows n)).1 (h.0, rw (zero-add (length (header_line n m))) there)) (omega arith);
       }
 
-  by_end : (n m at : ℕ) → header_at text ≡ Crew n m at → (o : Read) → rows_to text m at n ≡ o → after_rows text buffer n m o ≡ read_crew text buffer
+  by_end : (n m at : ℕ) → header_at text ≡ Ok (crew_header n m at) → (o : Read) → rows_to text m at n ≡ o → after_rows text buffer n m o ≡ read_crew text buffer
       → AcceptedText text buffer
   unfolding after_rows
   by_end n m at e (rows_read rows end) r a =
@@ -334,16 +332,18 @@ module _ (text buffer : List ℕ) (z : (read_crew text buffer).code ≡ 0) where
   by_end n m at e bad_form r a = refused_not text buffer 9 a z
   by_end n m at e bad_bit r a = refused_not text buffer 2 a z
 
-  by_line : length buffer ≡ buffer_length → length text ≤ longest_text → (h : Header) → header_at text ≡ h → AcceptedText text buffer
-  by_line b l (Crew n m at) e = by_end n m at e (rows_to text m at n) refl (by_crew text buffer b l e)
-  by_line b l Malformed e = refused_not text buffer 9 (by_malformed text buffer b l e) z
-  by_line b l Beyond e = refused_not text buffer 1 (by_beyond text buffer b l e) z
+  by_line : length buffer ≡ buffer_length → length text ≤ longest_text → AcceptedText text buffer
+  by_line b l =
+      header_cases text
+      (λ h e. by_end h.n h.m h.next e (rows_to text h.m h.next h.n) refl (by_crew text buffer b l h e))
+      (λ e. refused_not text buffer 9 (by_refusal text buffer b l Text e) z)
+      (λ e. refused_not text buffer 1 (by_refusal text buffer b l Limits e) z)
 
   pub accepted : AcceptedText text buffer
   accepted =
       equal_or (length buffer) buffer_length
       (λ b.
-      either longest_text (length text) (λ l. refused_not text buffer 9 (too_long text buffer b l) z) (λ l. by_line b l (header_at text) refl))
+      either longest_text (length text) (λ l. refused_not text buffer 9 (too_long text buffer b l) z) (λ l. by_line b l))
       (λ d. refused_not text buffer 2 (wrong_buffer text buffer d) z)
 
 -- a text that is accepted is the canonical text of the list that its answer and its words hold

@@ -14,7 +14,7 @@ use borrow.Author.Tests.{ltb-false, le-ltb, eqb-false}
 use Rattle.sets.specs.Sets.{has}
 use Rattle.sets.specs.Words.{word}
 use Rattle.sets.proofs.Truth.{not-So, So-not, when_cases, either, equal_or}
-use Rattle.sets.proofs.Items.{has-zero, item_below, below_of_items, item_of}
+use Rattle.sets.proofs.Members.{has-zero, item_below, below_of_items, item_of}
 use Rattle.sets.proofs.Words.{word-zero, word_lt, has_shift}
 use Rattle.model.specs.Lists.{OneOf}
 use Rattle.model.specs.State.{within_limits}
@@ -27,16 +27,16 @@ use Rattle.text_sets.proofs.Hexadecimals.{sixteen, hex_digit, hex_lt}
 use Rattle.text.proofs.Written.{decimal_writes}
 use Rattle.text_lines.specs.Format.{digits_for, header_line, row_line, row_lines}
 use Rattle.text_lines.specs.declared.header.Header.{Header}
-use Rattle.text_lines.specs.declared.header.Header.TheVariants.{Crew, Malformed, Beyond}
-use Rattle.text_lines.specs.declared.row.Row.{Row}
-use Rattle.text_lines.specs.declared.row.Row.TheVariants.{Digits, Broken}
+use Rattle.std.specs.Prelude.{Option, Some, None, Ok, Err}
+use Rattle.std.proofs.lemmas.Option.{none-some}
+use Rattle.refusals.specs.declared.Refusal.TheVariants.{Crew, Limits, Text}
 use Rattle.text_crew.specs.Reader.{longest_text, buffer_length, Read, rows_read, bad_form, bad_bit, with_row, next_row, rows_to, laid, ReadReply, read_refused, after_rows, read_crew}
-use Rattle.text_lines.specs.Lines.{limited, header_at, row_digits_at}
+use Rattle.text_lines.specs.Lines.{crew_header, limited, header_fields, header_at, row_digits_at}
 use Rattle.text_crew.specs.Conditions.{Begins, HeaderStands, RowStands, CrewRows, InOrder, HeaderBeyond, RowBeyond, HeaderBroken, RowBroken, MoreBytes, TextOf, LinesJudged, When0, When2, When3, When10, ReadFrom, ReadConditions}
 use Rattle.text_lines.proofs.Lines.{limits_broken}
-use Rattle.text_lines.proofs.Forms.{HeaderForm, header_form, header_beyond, row_has}
+use Rattle.text_lines.proofs.Forms.{HeaderForm, malformed_fields, header_form, header_seen, header_beyond, header_cases, row_has}
 use Rattle.text_crew.proofs.Laid.{length-laid, get_d_laid}
-use Rattle.text_crew.proofs.Answers.{Filling, fill_broken, fill_bit, fill_all, after_more, after_form, after_bit, wrong_buffer, too_long, by_crew, by_malformed, by_beyond}
+use Rattle.text_crew.proofs.Answers.{Filling, fill_broken, fill_bit, fill_all, after_more, after_fault, wrong_buffer, too_long, by_crew, by_refusal}
 use Rattle.text_crew.proofs.Canonical.{header_reads, header_read, header_written, row_read, row_written, rows_read_lem, rows_written, read_back, words_hold, AcceptedText, accepted}
 
 -- ---- what a text begins with, and goes on with
@@ -100,15 +100,8 @@ above_big m x p l t = either x (2 ^ m) (λ b. let z : p < m = item_below m x p b
 
 -- ---- the header
 
-limited_formed : (n m at : ℕ) → limited n m at ≡ Malformed → ⊥
-unfolding limited
-limited_formed n m at e =
-    when_cases (within_limits n m) (Crew n m at) Beyond Malformed e
-    (λ t. λ (f : Crew n m at ≡ Malformed). let z : ◌≡◌ {A = ℕ} 0 1 = cc in let no : ⊥ = omega arith in no)
-    (λ t. λ (f : Beyond ≡ Malformed). let z : ◌≡◌ {A = ℕ} 0 1 = cc in let no : ⊥ = omega arith in no)
-
 module _ (text : List ℕ) where
-  stands_read : (n m : ℕ) → HeaderStands text n m → header_at text ≡ limited n m (length (header_line n m))
+  stands_read : (n m : ℕ) → HeaderStands text n m → header_fields text ≡ Some (crew_header n m (length (header_line n m)))
   stands_read n m s = header_reads text n m s.0 s.1 ((begins_iff text (header_line n m)).1 s.2)
 
   form_stands : (n m at : ℕ) → HeaderForm text n m at → HeaderStands text n m
@@ -118,32 +111,37 @@ module _ (text : List ℕ) where
     (begins_iff text (header_line n m)).0 (header_written text n m at f).0,
   )
 
-  malformed_broken : header_at text ≡ Malformed → HeaderBroken text
-  malformed_broken e n m s = limited_formed n m (length (header_line n m)) (sym (stands_read n m s) ∙ e)
+  malformed_broken : header_fields text ≡ None → HeaderBroken text
+  malformed_broken e n m s = none-some _ (sym e ∙ stands_read n m s)
 
-  beyond_beyond : header_at text ≡ Beyond → HeaderBeyond text
+  beyond_beyond : header_at text ≡ Err Limits → HeaderBeyond text
   beyond_beyond e =
       let b = header_beyond text e in
-      let s = b.0 in
+      let h = b.0 in
       record {
-        n = s.n;
-        m = s.m;
-        header = form_stands s.n s.m s.at s.form;
-        beyond = λ l. So-not b.1 ((within_limits_iff s.n s.m).1 l);
+        n = h.n;
+        m = h.m;
+        header = form_stands h.n h.m h.next b.1;
+        beyond = λ l. So-not b.2 ((within_limits_iff h.n h.m).1 l);
       }
 
-  read_beyond : HeaderBeyond text → header_at text ≡ Beyond
+  read_beyond : HeaderBeyond text → header_at text ≡ Err Limits
+  unfolding header_at
   read_beyond f =
       let no = not-So (within_limits f.n f.m) (λ s. f.beyond ((within_limits_iff f.n f.m).0 s)) in
-      stands_read f.n f.m f.header ∙ sym (limits_broken f.n f.m (length (header_line f.n f.m)) no)
+      ap limited (stands_read f.n f.m f.header) ∙ limits_broken (crew_header f.n f.m (length (header_line f.n f.m))) no
 
-  read_broken : HeaderBroken text → header_at text ≡ Malformed
-  read_broken f = go (header_at text) refl
+  read_broken : HeaderBroken text → header_at text ≡ Err Text
+  unfolding header_at limited
+  read_broken f = ap limited (go (header_fields text) refl)
     where
-      go : (h : Header) → header_at text ≡ h → h ≡ Malformed
-      go (Crew n m at) e = absurd (f n m (form_stands n m at (header_form text n m at e).0))
-      go Malformed e = refl
-      go Beyond e = let b = beyond_beyond e in absurd (f b.n b.m b.header)
+      go : (o : Option Header) → header_fields text ≡ o → header_fields text ≡ None
+      go (Some h) e = absurd (f h.n h.m (form_stands h.n h.m h.next (header_seen text h e)))
+      go None e = e
+
+  form_broken : header_at text ≡ Err Text → HeaderBroken text
+  unfolding header_at
+  form_broken e = malformed_broken (malformed_fields text e)
 
 -- ---- from a text that is in order so far to what the reader makes of it
 
@@ -178,7 +176,7 @@ module _ (text : List ℕ) (n m k : ℕ) (rest : List ℕ) (f : InOrder text n m
       nothing [] l = refl
       nothing (x ∷ xs) l = absurd (omega arith)
 
-  header_here : header_at text ≡ Crew n m (length (header_line n m))
+  header_here : header_at text ≡ Ok (crew_header n m (length (header_line n m)))
   header_here =
       header_read text n m ((within_limits_iff n m).1 f.list.limits)
       ((holds-append text 0 (header_line n m) (row_lines m f.rows k)).0 ((begins_iff text front).1 (rest, front_rest))).0
@@ -198,13 +196,13 @@ module _ (text : List ℕ) (n m k : ℕ) (rest : List ℕ) (f : InOrder text n m
     filling = record { rows = f.rows; read = rows_here; count = f.list.count; held = refl }
 
     row_here : (x : ℕ) → RowStands rest m k x
-        → (row_digits_at text (digits_for m) k place ≡ Digits (place + length (decimal k) + 1))
+        → (row_digits_at text (digits_for m) k place ≡ Some (place + length (decimal k) + 1))
         × (hexadecimal_value (digits_for m) text (place + length (decimal k) + 1) ≡ x)
     row_here x s =
         let l : n ≤ 128 = f.list.limits.1 in
         row_read text m k place x (omega arith) s.0 ((rest_iff (row_line m k x)).1 s.1)
 
-  row_stands : (digits : ℕ) → row_digits_at text (digits_for m) k place ≡ Digits digits → RowStands rest m k (hexadecimal_value (digits_for m) text digits)
+  row_stands : (digits : ℕ) → row_digits_at text (digits_for m) k place ≡ Some digits → RowStands rest m k (hexadecimal_value (digits_for m) text digits)
   row_stands digits e =
       let x = hexadecimal_value (digits_for m) text digits in (
         rw (sixteen (digits_for m)) (hex_lt (digits_for m) text digits (hex_digit (digits_for m) text digits (row_has text (digits_for m) k place digits e))),
@@ -218,10 +216,10 @@ record Reached (text : List ℕ) (n m k p : ℕ) : Type 0 where
   order : InOrder text n m k rest
   at_place : p ≡ place text n m k rest order
 
-reached : (text : List ℕ) (n m at k : ℕ) (rows : List ℕ) (p : ℕ) → header_at text ≡ Crew n m at → rows_to text m at k ≡ rows_read rows p
+reached : (text : List ℕ) (n m at k : ℕ) (rows : List ℕ) (p : ℕ) → header_at text ≡ Ok (crew_header n m at) → rows_to text m at k ≡ rows_read rows p
     → Reached text n m k p
 reached text n m at k rows p e r =
-    let f = header_form text n m at e in
+    let f = header_form text (crew_header n m at) e in
     let h = header_written text n m at f.0 in
     let q : at ≡ length (header_line n m) = h.1 in
     let hl : 0 + length (header_line n m) ≤ length text = holds_end text 0 (header_line n m) h.0 in
@@ -236,7 +234,7 @@ reached text n m at k rows p e r =
       at_place = w.place ∙ ap (λ (x : ℕ). x + length (row_lines m rows k)) q;
     }
 
-row_reached : (text : List ℕ) (n m k p : ℕ) (q : Reached text n m k p) (o : Row) → row_digits_at text (digits_for m) k p ≡ o
+row_reached : (text : List ℕ) (n m k p : ℕ) (q : Reached text n m k p) (o : Option ℕ) → row_digits_at text (digits_for m) k p ≡ o
     → row_digits_at text (digits_for m) k (place text n m k q.rest q.order) ≡ o
 row_reached text n m k p q o e = ap (row_digits_at text (digits_for m) k) (sym q.at_place) ∙ e
 
@@ -266,33 +264,33 @@ module _ (text : List ℕ) (m at : ℕ) (o : Read) (d : (rows : List ℕ) (p : �
   first_fault zero e = absurd (d [] at e)
   first_fault (suc u) e = at_row u (rows_to text m at u) refl (λ f. first_fault u f) e
 
-fault_form : (text : List ℕ) (m : ℕ) (rows : List ℕ) (o : Row) → with_row text m rows o ≡ bad_form → o ≡ Broken
+fault_form : (text : List ℕ) (m : ℕ) (rows : List ℕ) (o : Option ℕ) → with_row text m rows o ≡ bad_form → o ≡ None
 unfolding with_row
-fault_form text m rows (Digits digits) e =
+fault_form text m rows (Some digits) e =
     let s = hexadecimal_value (digits_for m) text digits in
     when_cases (ltb s (2 ^ m)) (rows_read (rows ++ (s ∷ [])) (digits + digits_for m + 1)) bad_bit bad_form e
     (λ t. λ (f : rows_read (rows ++ (s ∷ [])) (digits + digits_for m + 1) ≡ bad_form). let z : ◌≡◌ {A = ℕ} 0 1 = cc in absurd (omega arith))
     (λ t. λ (f : bad_bit ≡ bad_form). let z : ◌≡◌ {A = ℕ} 0 1 = cc in absurd (omega arith))
-fault_form text m rows Broken e = refl
+fault_form text m rows None e = refl
 
-fault_bit : (text : List ℕ) (m : ℕ) (rows : List ℕ) (o : Row) → with_row text m rows o ≡ bad_bit
-    → (digits : ℕ) × (o ≡ Digits digits) × (ltb (hexadecimal_value (digits_for m) text digits) (2 ^ m) ≡ false)
+fault_bit : (text : List ℕ) (m : ℕ) (rows : List ℕ) (o : Option ℕ) → with_row text m rows o ≡ bad_bit
+    → (digits : ℕ) × (o ≡ Some digits) × (ltb (hexadecimal_value (digits_for m) text digits) (2 ^ m) ≡ false)
 unfolding with_row
-fault_bit text m rows (Digits digits) e =
+fault_bit text m rows (Some digits) e =
     let s = hexadecimal_value (digits_for m) text digits in
     when_cases (ltb s (2 ^ m)) (rows_read (rows ++ (s ∷ [])) (digits + digits_for m + 1)) bad_bit bad_bit e
     (λ t. λ (f : rows_read (rows ++ (s ∷ [])) (digits + digits_for m + 1) ≡ bad_bit). let z : ◌≡◌ {A = ℕ} 0 1 = cc in absurd (omega arith))
     (λ t f. (digits, refl, t))
-fault_bit text m rows Broken e = let z : ◌≡◌ {A = ℕ} 0 1 = cc in absurd (omega arith)
+fault_bit text m rows None e = let z : ◌≡◌ {A = ℕ} 0 1 = cc in absurd (omega arith)
 
-module _ (text : List ℕ) (n m at : ℕ) (e : header_at text ≡ Crew n m at) where
+module _ (text : List ℕ) (n m at : ℕ) (e : header_at text ≡ Ok (crew_header n m at)) where
   row_broken : rows_to text m at n ≡ bad_form → RowBroken text
   row_broken r =
       let f = first_fault text m at bad_form (λ rows p. λ (g : rows_read rows p ≡ bad_form). let z : ◌≡◌ {A = ℕ} 0 1 = cc in omega arith) n r in
       let q = reached text n m at f.k f.rows f.p e f.before in
       let l : f.k < n = f.below in
-      let b : row_digits_at text (digits_for m) f.k (place text n m f.k q.rest q.order) ≡ Broken =
-      row_reached text n m f.k f.p q Broken (fault_form text m f.rows (row_digits_at text (digits_for m) f.k f.p) f.fault) in
+      let b : row_digits_at text (digits_for m) f.k (place text n m f.k q.rest q.order) ≡ None =
+      row_reached text n m f.k f.p q None (fault_form text m f.rows (row_digits_at text (digits_for m) f.k f.p) f.fault) in
       record {
         n = n;
         m = m;
@@ -320,7 +318,7 @@ module _ (text : List ℕ) (n m at : ℕ) (e : header_at text ≡ Crew n m at) w
         order = q.order;
         one_more = f.below;
         x = x;
-        row = row_stands text n m f.k q.rest q.order b.0 (row_reached text n m f.k f.p q (Digits b.0) b.1);
+        row = row_stands text n m f.k q.rest q.order b.0 (row_reached text n m f.k f.p q (Some b.0) b.1);
         bit = item_above m x (ltb-false x (2 ^ m) b.2);
       }
 
@@ -349,7 +347,7 @@ module _ (text buffer : List ℕ) where
       let l : length text ≤ 16384 = j.1 in
       (omega arith, omega arith)
 
-  rows_outcome : (j : LinesJudged text buffer) (n m at : ℕ) → header_at text ≡ Crew n m at → (o : Read) → rows_to text m at n ≡ o
+  rows_outcome : (j : LinesJudged text buffer) (n m at : ℕ) → header_at text ≡ Ok (crew_header n m at) → (o : Read) → rows_to text m at n ≡ o
       → after_rows text buffer n m o ≡ read_crew text buffer → Outcome text buffer
   unfolding after_rows
   rows_outcome j n m at e (rows_read rows end) r a =
@@ -359,23 +357,25 @@ module _ (text buffer : List ℕ) where
   rows_outcome j n m at e bad_form r a = form a (◌⊎◌.inr (j, ◌⊎◌.inr (◌⊎◌.inl (row_broken text n m at e r))))
   rows_outcome j n m at e bad_bit r a = crew a (◌⊎◌.inr (j, row_beyond text n m at e r))
 
-  line_outcome : (j : LinesJudged text buffer) (h : Header) → header_at text ≡ h → Outcome text buffer
-  line_outcome j (Crew n m at) e = rows_outcome j n m at e (rows_to text m at n) refl (by_crew text buffer (fits j).0 (fits j).1 e)
-  line_outcome j Malformed e = form (by_malformed text buffer (fits j).0 (fits j).1 e) (◌⊎◌.inr (j, ◌⊎◌.inl (malformed_broken text e)))
-  line_outcome j Beyond e = limits (by_beyond text buffer (fits j).0 (fits j).1 e) (j, beyond_beyond text e)
+  line_outcome : (j : LinesJudged text buffer) → Outcome text buffer
+  line_outcome j =
+      header_cases text
+      (λ h e. rows_outcome j h.n h.m h.next e (rows_to text h.m h.next h.n) refl (by_crew text buffer (fits j).0 (fits j).1 h e))
+      (λ e. form (by_refusal text buffer (fits j).0 (fits j).1 Text e) (◌⊎◌.inr (j, ◌⊎◌.inl (form_broken text e))))
+      (λ e. limits (by_refusal text buffer (fits j).0 (fits j).1 Limits e) (j, beyond_beyond text e))
 
   outcome : Outcome text buffer
   outcome =
       equal_or (length buffer) buffer_length
       (λ b.
       either longest_text (length text) (λ l. form (too_long text buffer b l) (◌⊎◌.inl (omega arith, omega arith)))
-      (λ l. line_outcome (omega arith, omega arith) (header_at text) refl))
+      (λ l. line_outcome (omega arith, omega arith)))
       (λ d. crew (wrong_buffer text buffer d) (◌⊎◌.inl d))
 
   -- where the header and k rows are in order, the rows decide
   by_rows : LinesJudged text buffer → (n m k : ℕ) (rest : List ℕ) → InOrder text n m k rest
       → after_rows text buffer n m (rows_to text m (length (header_line n m)) n) ≡ read_crew text buffer
-  by_rows j n m k rest f = by_crew text buffer (fits j).0 (fits j).1 (header_here text n m k rest f)
+  by_rows j n m k rest f = by_crew text buffer (fits j).0 (fits j).1 (crew_header n m (length (header_line n m))) (header_here text n m k rest f)
 
   -- ---- each number exactly when
 
@@ -392,7 +392,7 @@ module _ (text buffer : List ℕ) where
       ((rows_within_iff m rows).1 (λ u b. items_below m (get_or rows u 0) (λ p. t.list.bits u p (omega arith)))) w.0.0))
 
   when2 : When2 text buffer → (read_crew text buffer).code ≡ 2
-  when2 w = code_of 2 buffer (by_beyond text buffer (fits w.0).0 (fits w.0).1 (read_beyond text w.1))
+  when2 w = code_of 2 buffer (by_refusal text buffer (fits w.0).0 (fits w.0).1 Limits (read_beyond text w.1))
 
   when3 : When3 text buffer → (read_crew text buffer).code ≡ 3
   when3 w = ⊎_elim (λ d. code_of 3 buffer (wrong_buffer text buffer d)) (λ x. bit x.0 x.1) w
@@ -405,7 +405,7 @@ module _ (text buffer : List ℕ) where
           let big : ltb f.x (2 ^ f.m) ≡ false = le-ltb f.x (2 ^ f.m) (above_big f.m f.x f.bit.0 f.bit.1 f.bit.2) in
           let rows = filling text f.n f.m f.k f.rest f.order few in
           let end = (fill_bit text f.m _ f.k _ _ rows f.n _ f.x [] l h.0 (sym h.1) big).0 in
-          code_of 3 buffer (after_bit text buffer f.n f.m _ end ∙ by_rows j f.n f.m f.k f.rest f.order)
+          code_of 3 buffer (after_fault text buffer f.n f.m _ Crew end ∙ by_rows j f.n f.m f.k f.rest f.order)
 
   when10 : When10 text buffer → (read_crew text buffer).code ≡ 10
   when10 w =
@@ -413,20 +413,20 @@ module _ (text buffer : List ℕ) where
       (λ x. ⊎_elim (header x.0) (λ y. ⊎_elim (row x.0) (more x.0) y) x.1) w
     where
       header : LinesJudged text buffer → HeaderBroken text → (read_crew text buffer).code ≡ 10
-      header j f = code_of 10 buffer (by_malformed text buffer (fits j).0 (fits j).1 (read_broken text f))
+      header j f = code_of 10 buffer (by_refusal text buffer (fits j).0 (fits j).1 Text (read_broken text f))
 
       row : LinesJudged text buffer → RowBroken text → (read_crew text buffer).code ≡ 10
       row j f =
           let l : f.k < f.n = f.one_more in
           let rows = filling text f.n f.m f.k f.rest f.order (omega arith) in
           let end = (fill_broken text f.m _ f.k _ _ rows f.n [] l (go _ refl)).0 in
-          code_of 10 buffer (after_form text buffer f.n f.m _ end ∙ by_rows j f.n f.m f.k f.rest f.order)
+          code_of 10 buffer (after_fault text buffer f.n f.m _ Text end ∙ by_rows j f.n f.m f.k f.rest f.order)
         where
-          go : (o : Row) → row_digits_at text (digits_for f.m) f.k (place text f.n f.m f.k f.rest f.order) ≡ o → o ≡ Broken
-          go (Digits digits) e =
+          go : (o : Option ℕ) → row_digits_at text (digits_for f.m) f.k (place text f.n f.m f.k f.rest f.order) ≡ o → o ≡ None
+          go (Some digits) e =
               let x = hexadecimal_value (digits_for f.m) text digits in
               absurd (f.broken x (row_stands text f.n f.m f.k f.rest f.order digits e))
-          go Broken e = refl
+          go None e = refl
 
       more : LinesJudged text buffer → MoreBytes text → (read_crew text buffer).code ≡ 10
       more j f =

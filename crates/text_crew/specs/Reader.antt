@@ -1,21 +1,19 @@
 -- What the reader answers. "a text's length is judged before its lines, which are read from the front, and the first fault counts (in each
 -- line its form, 10, before its limits: 2 for the header, 3 for a row; then more bytes, 10"
 -- Assumes nothing.
-use Rattle.std.specs.Prelude.{◌≡◌, List, [], ◌∷◌, ◌++◌, ℕ, zero, suc, ◌+◌, ◌^◌, eqb, leb, ltb, length, get_or}
+use Rattle.std.specs.Prelude.{◌≡◌, Option, Some, None, Result, Ok, Err, List, [], ◌∷◌, ◌++◌, ℕ, zero, suc, ◌+◌, ◌^◌, eqb, leb, ltb, length, get_or}
 use Rattle.sets.specs.Truth.{isnt, when◌then◌else◌}
 use Rattle.model.specs.Lists.{tabulate}
 use Rattle.model.specs.Record.{region_word}
-use Rattle.model.specs.Refusals.{outside_limits, wrong_crew_words, wrong_text}
+use Rattle.model.specs.Refusals.{wrong_crew_words, wrong_text}
 use Rattle.text_sets.specs.Hexadecimal.{hexadecimal_value}
 use Rattle.text_lines.specs.Format.{digits_for}
 use Rattle.text_lines.specs.Lines.{header_at, row_digits_at}
-use Rattle.text_crew.specs.declared.CrewRead.{CrewRead}
+use Rattle.text_crew.specs.declared.CrewSize.{CrewSize}
 use Rattle.text_lines.specs.declared.header.Header.{Header}
-use Rattle.text_lines.specs.declared.header.Header.TheVariants.{Crew, Malformed, Beyond}
-use Rattle.text_lines.specs.declared.row.Row.{Row}
-use Rattle.text_lines.specs.declared.row.Row.TheVariants.{Digits, Broken}
-use Rattle.text_crew.specs.declared.rows.RowsEnd.{RowsEnd}
-use Rattle.text_crew.specs.declared.rows.RowsEnd.TheVariants.{End, BadForm, BadBit}
+use Rattle.refusals.specs.declared.Refusal.{Refusal}
+use Rattle.refusals.specs.declared.Refusal.TheVariants.{Crew, Text}
+use Rattle.refusals.specs.Numbers.{number_of}
 
 -- "over 16,384 bytes", "a lent buffer of 512 words"
 abbrev pub longest_text : ℕ
@@ -33,11 +31,11 @@ pub data Read : Type 0 where
   bad_bit : Read
 
 -- one row more, by its form and then by its bits: none at m or above
-unfoldable pub with_row : List ℕ → ℕ → List ℕ → Row → Read
-with_row text m rows (Digits at) =
+unfoldable pub with_row : List ℕ → ℕ → List ℕ → Option ℕ → Read
+with_row text m rows (Some at) =
     let s = hexadecimal_value (digits_for m) text at in
     when ltb s (2 ^ m) then rows_read (rows ++ (s ∷ [])) (at + digits_for m + 1) else bad_bit
-with_row text m rows Broken = bad_form
+with_row text m rows None = bad_form
 
 unfoldable pub next_row : List ℕ → ℕ → ℕ → Read → Read
 next_row text m u (rows_read rows at) = with_row text m rows (row_digits_at text (digits_for m) u at)
@@ -72,10 +70,9 @@ after_rows text buffer n m (rows_read rows at) =
 after_rows text buffer n m bad_form = read_refused wrong_text buffer
 after_rows text buffer n m bad_bit = read_refused wrong_crew_words buffer
 
-unfoldable pub after_header : List ℕ → List ℕ → Header → ReadReply
-after_header text buffer (Crew n m at) = after_rows text buffer n m (rows_to text m at n)
-after_header text buffer Malformed = read_refused wrong_text buffer
-after_header text buffer Beyond = read_refused outside_limits buffer
+unfoldable pub after_header : List ℕ → List ℕ → Result Header Refusal → ReadReply
+after_header text buffer (Ok h) = after_rows text buffer h.n h.m (rows_to text h.m h.next h.n)
+after_header text buffer (Err r) = read_refused (number_of r) buffer
 
 -- the reader, on a text and a lent buffer
 unfoldable pub read_crew : List ℕ → List ℕ → ReadReply
@@ -86,14 +83,16 @@ read_crew text buffer =
 
 -- ---- what the code gives
 
-unfoldable pub read_result : CrewRead → List ℕ → ReadReply
-read_result r buffer = record { code = r.code; n = r.n; m = r.m; words = buffer }
+-- n and m, or the refusal
+unfoldable pub read_result : Result CrewSize Refusal → List ℕ → ReadReply
+read_result (Ok size) buffer = record { code = 0; n = size.n; m = size.m; words = buffer }
+read_result (Err r) buffer = read_refused (number_of r) buffer
 
--- the code's answer for the rows
-unfoldable pub rows_end : Read → RowsEnd
-rows_end (rows_read rows at) = End at
-rows_end bad_form = BadForm
-rows_end bad_bit = BadBit
+-- the place after the rows, or what their first fault is told as
+unfoldable pub rows_end : Read → Result ℕ Refusal
+rows_end (rows_read rows at) = Ok at
+rows_end bad_form = Err Text
+rows_end bad_bit = Err Crew
 
 -- where all rows are read, the words hold them
 unfoldable pub RowsLaid : Read → List ℕ → Type 0

@@ -6,9 +6,8 @@ ghost use Rattle.text_crew.specs.Reader.{after_rows, read_result, read_crew, row
 
 mod rows;
 
-use crate::rows::{RowsEnd, read_rows};
-use refusals::{REFUSED_CREW, REFUSED_LIMITS, REFUSED_TEXT};
-use tables::copy;
+use crate::rows::read_rows;
+use refusals::Refusal;
 use text_lines::{Header, read_header};
 
 const BUFFER: usize = 512;
@@ -18,52 +17,48 @@ const LONGEST: usize = 16384;
 // A byte more, for who reads a text from elsewhere: so a longer one is noticed.
 pub const SPACE: usize = 16385;
 
-// A refusal's number and zeros, or 0 with n and m.
-#[repr(C)]
+// How many users and permissions a crew list has.
 #[derive(Clone, Copy)]
-pub struct CrewRead {
-    pub code: u64,
+pub struct CrewSize {
     pub n: u64,
     pub m: u64,
 }
 
-fn refused(code: u64) -> CrewRead
-    ensures { (result.code ≡ code) × (result.n ≡ 0) × (result.m ≡ 0) }
-{
-    CrewRead { code, n: 0, m: 0 }
-}
-
-pub fn read_crew(text: &[u8], rows: &mut [u64]) -> CrewRead
+// The rows of the list are in the buffer afterwards; where the text is refused, the buffer is as it was lent.
+#[tactic(auto, using(crate::proofs::Answers::reader_laws), unfolding(crate::specs::Reader::read_result))]
+pub fn read_crew(text: &[u8], rows: &mut [u64]) -> Result<CrewSize, Refusal>
     ensures { read_result result rows.new ≡ read_crew text.now rows.old }
 {
     if rows.len() != BUFFER {
-        return refused(REFUSED_CREW);
+        return Err(Refusal::Crew);
     }
     if LONGEST < text.len() {
-        return refused(REFUSED_TEXT);
+        return Err(Refusal::Text);
     }
-    match read_header(text) {
-        Header::Crew { n, m, next } => fill(text, next, n, m, rows),
-        Header::Malformed => refused(REFUSED_TEXT),
-        Header::Beyond => refused(REFUSED_LIMITS),
-    }
+    let header = read_header(text)?;
+    fill(text, header, rows)
 }
 
 // The rows go into words of their own, and from there to the buffer when the whole text is in order.
-fn fill(text: &[u8], at: usize, n: u64, m: u64, rows: &mut [u64]) -> CrewRead
-    requires { (n ≤ 128) × (m ≤ 256) × (length rows.old ≡ 512) }
-    ensures { read_result result rows.new ≡ after_rows text.now rows.old n m (rows_to text.now m at n) }
+#[tactic(auto, using(crate::proofs::Answers::rows_laws), unfolding(crate::specs::Reader::read_result))]
+fn fill(text: &[u8], header: Header, rows: &mut [u64]) -> Result<CrewSize, Refusal>
+    requires { (header.n ≤ 128) × (header.m ≤ 256) × (length rows.old ≡ 512) }
+    ensures { read_result result rows.new ≡ after_rows text.now rows.old header.n header.m (rows_to text.now header.m header.next header.n) }
 {
     let mut words = [0u64; BUFFER];
-    match read_rows(text, at, n as usize, m as usize, &mut words) {
-        RowsEnd::End(end) => {
-            if end == text.len() {
-                copy(rows, 0, &words);
-                return CrewRead { code: 0, n, m };
-            }
-            refused(REFUSED_TEXT)
-        }
-        RowsEnd::BadForm => refused(REFUSED_TEXT),
-        RowsEnd::BadBit => refused(REFUSED_CREW),
+    let end = read_rows(
+        text,
+        header.next,
+        header.n as usize,
+        header.m as usize,
+        &mut words,
+    )?;
+    if end != text.len() {
+        return Err(Refusal::Text);
     }
+    rows.copy_from_slice(&words);
+    Ok(CrewSize {
+        n: header.n,
+        m: header.m,
+    })
 }

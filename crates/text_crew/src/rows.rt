@@ -2,41 +2,35 @@
 ghost use Rattle.std.specs.Prelude.{◌≡◌, ◌≤◌, []};
 ghost use Rattle.text_crew.specs.Reader.{RowsLaid, laid, rows_end, rows_to};
 
-use sets_256::Set256;
-use tables::store256;
-use text_lines::{Row, read_row};
+use refusals::Refusal;
+use sets::Set256;
+use tables::store;
+use text_lines::{digits_for, read_row};
 use text_sets::hexadecimal_set;
 
-#[derive(Clone, Copy)]
-pub enum RowsEnd {
-    // the place after the last row
-    End(usize),
-    BadForm,
-    // a bit at m or above
-    BadBit,
-}
-
-// Reads n rows from place `start` on into empty words, which are of use only where all rows are read.
-pub fn read_rows(text: &[u8], start: usize, n: usize, m: usize, words: &mut [u64]) -> RowsEnd
+// Reads n rows from place `start` on into empty words, which are of use only where all rows are read; the place after them.
+pub fn read_rows(
+    text: &[u8],
+    start: usize,
+    n: usize,
+    m: usize,
+    words: &mut [u64],
+) -> Result<usize, Refusal>
     requires { (n ≤ 128) × (m ≤ 256) × (words.old ≡ laid []) }
     ensures value { result ≡ rows_end (rows_to text.now m start n) }
     ensures rows_laid { RowsLaid (rows_to text.now m start n) words.new }
 {
-    let d = (m + 3) / 4;
+    let d = digits_for(m as u64);
     let allowed = Set256::below(m);
     let mut at = start;
-    let mut u = 0;
-    while u < n {
-        let Row::Digits(digits) = read_row(text, at, u, d) else {
-            return RowsEnd::BadForm;
-        };
+    for u in 0..n {
+        let digits = read_row(text, at, u, d).ok_or(Refusal::Text)?;
         let s = hexadecimal_set(text, digits, d);
         if !s.is_subset(allowed) {
-            return RowsEnd::BadBit;
+            return Err(Refusal::Crew);
         }
-        store256(words, 4 * u, s);
+        store(words, 4 * u, s);
         at = digits + d + 1;
-        u += 1;
     }
-    RowsEnd::End(at)
+    Ok(at)
 }

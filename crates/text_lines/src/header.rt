@@ -1,49 +1,44 @@
 // The first line: `crew,n,m`.
 ghost use Rattle.std.specs.Prelude.{◌≡◌};
-ghost use Rattle.text_lines.specs.Lines.{header_at, limited};
+ghost use Rattle.text_lines.specs.Lines.{header_at, header_fields};
 
 use limits::limits_kept;
-use text::{Decimal, Field, read_decimal, read_fixed, read_line_end};
+use refusals::Refusal;
+use text::{read_decimal, read_fixed, read_line_end};
 
+// n, m and the place after the line.
 #[derive(Clone, Copy)]
-pub enum Header {
-    // n, m and the place after the line
-    Crew { n: u64, m: u64, next: usize },
-    Malformed,
-    // n or m outside its limits
-    Beyond,
+pub struct Header {
+    pub n: u64,
+    pub m: u64,
+    pub next: usize,
 }
 
-fn limits(n: u64, m: u64, next: usize) -> Header
-    ensures { result ≡ limited n m next }
+#[tactic(auto, using(crate::proofs::Lines::fields_laws))]
+fn read_fields(text: &[u8]) -> Option<Header>
+    ensures { result ≡ header_fields text.now }
 {
-    if !limits_kept(n, m) {
-        return Header::Beyond;
-    }
-    Header::Crew { n, m, next }
+    let users = read_fixed(text, 0, b"crew,")?;
+    let n = read_decimal(text, users)?;
+    let permissions = read_fixed(text, n.next, b",")?;
+    let m = read_decimal(text, permissions)?;
+    let next = read_line_end(text, m.next)?;
+    Some(Header {
+        n: n.value,
+        m: m.value,
+        next,
+    })
 }
 
-pub fn read_header(text: &[u8]) -> Header
+// The form of the whole line is judged before its limits.
+#[tactic(auto, using(crate::proofs::Lines::header_laws))]
+pub fn read_header(text: &[u8]) -> Result<Header, Refusal>
     ensures { result ≡ header_at text.now }
 {
-    let Field::Ends(users) = read_fixed(text, 0, b"crew,") else {
-        return Header::Malformed;
-    };
-    let Decimal::Number { value: n, next } = read_decimal(text, users) else {
-        return Header::Malformed;
-    };
-    let Field::Ends(permissions) = read_fixed(text, next, b",") else {
-        return Header::Malformed;
-    };
-    let Decimal::Number {
-        value: m,
-        next: end,
-    } = read_decimal(text, permissions)
-    else {
-        return Header::Malformed;
-    };
-    let Field::Ends(rows) = read_line_end(text, end) else {
-        return Header::Malformed;
-    };
-    limits(n, m, rows)
+    let header = read_fields(text).ok_or(Refusal::Text)?;
+    if limits_kept(header.n, header.m) {
+        Ok(header)
+    } else {
+        Err(Refusal::Limits)
+    }
 }

@@ -7,4 +7,4 @@ mod row;
 
 pub use digits::digits_for;
 pub use header::{Header, read_header};
-pub use row::{Row, read_row};
+pub use row::read_row;

@@ -1,16 +1,15 @@
 // The lines of the roles.
-ghost use Rattle.std.specs.Prelude.{◌≡◌, ◌+◌, ◌<◌, ◌≤◌, length, get_or};
+ghost use Rattle.std.specs.Prelude.{◌≡◌, ◌+◌, ◌*◌, ◌<◌, ◌≤◌, length, get_or};
 ghost use Rattle.model.specs.Lists.{set_at};
 ghost use Rattle.stores.specs.Stores.{put_at};
 ghost use Rattle.text.specs.Decimal.{decimal};
-ghost use Rattle.text_lines.specs.Format.{digits_for};
 ghost use Rattle.text_roles.specs.Lines.{field};
 ghost use Rattle.text_roles.specs.Words.{Limited, words_line, standing_line, words_lines};
 
-use tables::{JUNIORS, MEMBERS, PERMISSIONS, SETS, STANDING, load128, load256};
+use tables::{JUNIORS, MEMBERS, PERMISSIONS, SETS, STANDING, load};
 use text::{put_bytes, put_decimal};
 use text_lines::digits_for;
-use text_sets::{put_hexadecimal, put_hexadecimal_128};
+use text_sets::put_hexadecimal;
 
 // A decimal, where there is place for any.
 pub fn put_number(out: &mut [u8], at: usize, v: u64) -> usize
@@ -20,30 +19,19 @@ pub fn put_number(out: &mut [u8], at: usize, v: u64) -> usize
     put_decimal(out, at, v)
 }
 
-// How many hexadecimal digits a set of items below `size` has.
-fn digits(size: u64) -> usize
-    requires { size ≤ 256 }
-    ensures { result ≡ digits_for size }
-{
-    digits_for(size)
-}
-
 // A comma, and the set at this place of the record.
-fn put_set256(rec: &[u64], place: usize, size: u64, out: &mut [u8], at: usize) -> usize
-    requires { (place + 4 ≤ length rec.now) × (size ≤ 256) × (at + 65 ≤ length out.old) }
-    ensures { (result ≡ at + length (field size (set_at 4 rec.now place))) × (out.new ≡ put_at out.old at (field size (set_at 4 rec.now place))) × (result ≤ at + 65) }
+fn put_set<const WORDS: usize>(
+    rec: &[u64],
+    place: usize,
+    size: u64,
+    out: &mut [u8],
+    at: usize,
+) -> usize
+    requires { (WORDS ≤ 4) × (place + WORDS ≤ length rec.now) × (size ≤ 64 * WORDS) × (at + (1 + 16 * WORDS) ≤ length out.old) }
+    ensures { (result ≡ at + length (field size (set_at WORDS rec.now place))) × (out.new ≡ put_at out.old at (field size (set_at WORDS rec.now place))) × (result ≤ at + (1 + 16 * WORDS)) }
 {
     let next = put_bytes(out, at, b",");
-    put_hexadecimal(out, next, load256(rec, place), digits(size))
-}
-
-// The same of a set of items below 128.
-fn put_set128(rec: &[u64], place: usize, size: u64, out: &mut [u8], at: usize) -> usize
-    requires { (place + 2 ≤ length rec.now) × (size ≤ 128) × (at + 33 ≤ length out.old) }
-    ensures { (result ≡ at + length (field size (set_at 2 rec.now place))) × (out.new ≡ put_at out.old at (field size (set_at 2 rec.now place))) × (result ≤ at + 33) }
-{
-    let next = put_bytes(out, at, b",");
-    put_hexadecimal_128(out, next, load128(rec, place), digits(size))
+    put_hexadecimal(out, next, &load::<WORDS>(rec, place), digits_for(size))
 }
 
 // How many candidates there are, standing or not.
@@ -61,10 +49,10 @@ fn put_line(rec: &[u64], out: &mut [u8], at: usize, k: usize) -> usize
     ensures out_after { out.new ≡ put_at out.old at (words_line rec.now k) }
 {
     let set = put_number(out, at, k as u64);
-    let permissions = put_set256(rec, SETS + 4 * k, rec[1], out, set);
-    let members = put_set256(rec, PERMISSIONS + 4 * k, rec[1], out, permissions);
-    let juniors = put_set128(rec, MEMBERS + 2 * k, rec[0], out, members);
-    let end = put_set128(rec, JUNIORS + 2 * k, candidates(rec), out, juniors);
+    let permissions = put_set::<4>(rec, SETS + 4 * k, rec[1], out, set);
+    let members = put_set::<4>(rec, PERMISSIONS + 4 * k, rec[1], out, permissions);
+    let juniors = put_set::<2>(rec, MEMBERS + 2 * k, rec[0], out, members);
+    let end = put_set::<2>(rec, JUNIORS + 2 * k, candidates(rec), out, juniors);
     put_bytes(out, end, b"\n")
 }
 
@@ -74,10 +62,11 @@ fn put_standing(rec: &[u64], out: &mut [u8], at: usize, k: usize) -> usize
     ensures value { result ≡ at + length (standing_line rec.now k) }
     ensures out_after { out.new ≡ put_at out.old at (standing_line rec.now k) }
 {
-    if !load128(rec, STANDING).contains(k) {
-        return at;
+    if load::<2>(rec, STANDING).contains(k) {
+        put_line(rec, out, at, k)
+    } else {
+        at
     }
-    put_line(rec, out, at, k)
 }
 
 // The lines of all standing roles.
@@ -89,10 +78,8 @@ pub fn put_lines(rec: &[u64], out: &mut [u8], start: usize) -> usize
 {
     let c = candidates(rec) as usize;
     let mut at = start;
-    let mut k = 0;
-    while k < c {
+    for k in 0..c {
         at = put_standing(rec, out, at, k);
-        k += 1;
     }
     at
 }

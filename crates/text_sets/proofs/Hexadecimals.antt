@@ -15,13 +15,12 @@ use lib.Bits.{bit_and, and_mask}
 use Rattle.sets.specs.Truth.{all}
 use Rattle.sets.specs.Words.{value, word}
 use Rattle.sets.proofs.Words.{value-nil, value-cons, value_words, word_quotient}
-use Rattle.sets.proofs.Truth.{not-So, and_iff, all_of, all_is, all_through, ltb_iff, leb_iff, either}
+use Rattle.sets.proofs.Truth.{not-So, when-true, when-false, and_iff, all_of, all_is, ltb_iff, leb_iff, either}
 use Rattle.text.specs.Digits.{digit_at, digit_byte}
 use Rattle.text.proofs.Bytes.{field_there, field_missing}
 use Rattle.stores.specs.Stores.{put_at}
 use Rattle.stores.proofs.Stores.{put_at-append}
-use Rattle.text.specs.declared.field.Field.{Field}
-use Rattle.text.specs.declared.field.Field.TheVariants.{Ends, Missing}
+use Rattle.std.specs.Prelude.{Option, Some, None}
 use Rattle.text_sets.specs.Hexadecimal.{hexadecimal_at, hexadecimal_field, hexadecimal_value, hexadecimal}
 
 -- 16 to the d is 2 to the 4 d
@@ -54,14 +53,13 @@ module _ (d : ℕ) (text : List ℕ) (at : ℕ) where
   pub hex_short : length text < at + d → hexadecimal_at d text at ≡ false
   hex_short h = not-So (hexadecimal_at d text at) (λ s. let l : at + d ≤ length text = hex_end s in omega arith)
 
-  pub hex_fails : {x : ℕ} (i : ℕ) → i < d → x ≡ digit_at text (at + i) → 16 ≤ x → hexadecimal_at d text at ≡ false
-  hex_fails i l e h = not-So (hexadecimal_at d text at) (λ s. let k : digit_at text (at + i) < 16 = hex_digit s i l in omega arith)
+  pub hex_fails : (i : ℕ) → i < d → 16 ≤ digit_at text (at + i) → hexadecimal_at d text at ≡ false
+  hex_fails i l h = not-So (hexadecimal_at d text at) (λ s. let k : digit_at text (at + i) < 16 = hex_digit s i l in omega arith)
 
-  pub hex_through : (i : ℕ) → at + d ≤ length text → d ≤ i → So (all i (λ k. ltb (digit_at text (at + k)) 16)) → So (hexadecimal_at d text at)
-  unfolding hexadecimal_at
-  hex_through i b h s =
-      (and_iff (leb (at + d) (length text)) (all d (λ i. ltb (digit_at text (at + i)) 16))).1
-      ((leb_iff (at + d) (length text)).1 b, sym (all_through d i (λ i. ltb (digit_at text (at + i)) 16) h s))
+  pub hex_all : at + d ≤ length text → ((i : ℕ) → i < d → digit_at text (at + i) < 16) → hexadecimal_at d text at ≡ true
+  hex_all b h = hex_iff.1 (b, h)
+
+pub ruleset place_laws = (hex_short, hex_fails, hex_all)
 
 -- a part of them
 pub hex_part : (d : ℕ) (text : List ℕ) (at a k : ℕ) → So (hexadecimal_at d text at) → a + k ≤ d → So (hexadecimal_at k text (at + a))
@@ -96,6 +94,8 @@ hex_room i d text at l h s =
     let f : 4 * i ≤ 60 = omega arith in
     let b : 2 ^ (4 * i) ≤ 2 ^ 60 = pow_mono f in
     omega arith
+
+pub ruleset value_laws = (hex_end, hex_digit, hex_more, hex_room)
 
 -- the digits after the first a, and the first a above them
 pub hex_split : (a k : ℕ) (text : List ℕ) (at : ℕ)
@@ -141,6 +141,8 @@ hex_words d text at a b c w0 w1 w2 w3 h ea eb ec e0 e1 e2 e3 =
     let z : hexadecimal_value c text at ≡ 0 * 2 ^ 64 + w3 = omega arith in
     rw (value-cons w0 (w1 ∷ w2 ∷ w3 ∷ []), value-cons w1 (w2 ∷ w3 ∷ []), value-cons w2 (w3 ∷ []), value-cons w3 [], value-nil)
     (sym (p ∙ ap (λ (x : ℕ). x * 2 ^ 64 + w0) (q ∙ ap (λ (x : ℕ). x * 2 ^ 64 + w1) (r ∙ ap (λ (x : ℕ). x * 2 ^ 64 + w2) z))))
+
+pub ruleset set_laws = (hex_end, hex_part, hex_first, hex_words)
 
 -- ---- the digits of a set
 
@@ -237,11 +239,21 @@ wider s h =
 
 -- ---- the field of d digits
 
-module _ (d : ℕ) (text : List ℕ) (at : ℕ) {r : Field} (h : r ≡ hexadecimal_field d text at) where
-  pub hexadecimal_there : {k : ℕ} → r ≡ Ends k → (hexadecimal_at d text at ≡ true) × (k ≡ at + d)
+pub field_is : (d : ℕ) (text : List ℕ) (at : ℕ) → So (hexadecimal_at d text at) → Some (at + d) ≡ hexadecimal_field d text at
+unfolding hexadecimal_field
+field_is d text at s = sym (when-true (hexadecimal_at d text at) (Some (at + d)) None s)
+
+pub field_is_not : (d : ℕ) (text : List ℕ) (at : ℕ) → hexadecimal_at d text at ≡ false → None ≡ hexadecimal_field d text at
+unfolding hexadecimal_field
+field_is_not d text at e = sym (when-false (hexadecimal_at d text at) (Some (at + d)) None e)
+
+pub ruleset field_laws = (hex_end, field_is, field_is_not)
+
+module _ (d : ℕ) (text : List ℕ) (at : ℕ) {r : Option ℕ} (h : r ≡ hexadecimal_field d text at) where
+  pub hexadecimal_there : {k : ℕ} → r ≡ Some k → (hexadecimal_at d text at ≡ true) × (k ≡ at + d)
   unfolding hexadecimal_field
   hexadecimal_there = field_there (at + d) h
 
-  pub hexadecimal_missing : r ≡ Missing → hexadecimal_at d text at ≡ false
+  pub hexadecimal_missing : r ≡ None → hexadecimal_at d text at ≡ false
   unfolding hexadecimal_field
   hexadecimal_missing = field_missing (at + d) h

@@ -1,9 +1,7 @@
 -- Sets "in hexadecimal, lower case", with a given number of digits, "highest digit first".
 -- Assumes nothing.
-use Rattle.std.specs.Prelude.{Bool, List, [], ◌∷◌, ℕ, zero, suc, ◌+◌, ◌*◌, ◌/◌, ◌%◌, ◌^◌, leb, ltb, length}
+use Rattle.std.specs.Prelude.{Bool, Option, Some, None, List, [], ◌∷◌, ℕ, zero, suc, ◌+◌, ◌*◌, ◌/◌, ◌%◌, ◌^◌, leb, ltb, length}
 use Rattle.sets.specs.Truth.{◌and◌, when◌then◌else◌, all}
-use Rattle.text.specs.declared.field.Field.{Field}
-use Rattle.text.specs.declared.field.Field.TheVariants.{Ends, Missing}
 use Rattle.text.specs.Digits.{digit_byte, digit_at}
 
 -- d digits stand from place `at` on
@@ -11,8 +9,8 @@ unfoldable pub hexadecimal_at : ℕ → List ℕ → ℕ → Bool
 hexadecimal_at d text at = leb (at + d) (length text) and all d (λ i. ltb (digit_at text (at + i)) 16)
 
 -- the field of d digits
-unfoldable pub hexadecimal_field : ℕ → List ℕ → ℕ → Field
-hexadecimal_field d text at = when hexadecimal_at d text at then Ends (at + d) else Missing
+unfoldable pub hexadecimal_field : ℕ → List ℕ → ℕ → Option ℕ
+hexadecimal_field d text at = when hexadecimal_at d text at then Some (at + d) else None
 
 -- the number that the d digits from place `at` on make
 unfoldable pub hexadecimal_value : ℕ → List ℕ → ℕ → ℕ

@@ -27,10 +27,8 @@ pub fn text_length(n: u64, m: u64) -> usize
     // `crew,`, a comma and the line's end; for each row a comma and the line's end
     let mut size = 7 + decimal_length(n) + decimal_length(m);
     let row = 2 + digits_for(m);
-    let mut u = 0;
-    while u < n {
+    for u in 0..n {
         size += decimal_length(u) + row;
-        u += 1;
     }
     size
 }

@@ -6,7 +6,7 @@ ghost use Rattle.stores.specs.Stores.{put_at};
 ghost use Rattle.text.specs.Decimal.{decimal};
 ghost use Rattle.text_lines.specs.Format.{digits_for, row_line, row_lines};
 
-use tables::{CREW, load256};
+use tables::{CREW, load};
 use text::{put_bytes, put_decimal};
 use text_lines::digits_for;
 use text_sets::put_hexadecimal;
@@ -22,7 +22,7 @@ fn put_row(rec: &[u64], u: usize, m: u64, out: &mut [u8], at: usize) -> usize
 {
     let between = put_decimal(out, at, u as u64);
     let row = put_bytes(out, between, b",");
-    let end = put_hexadecimal(out, row, load256(rec, CREW + 4 * u), digits_for(m));
+    let end = put_hexadecimal(out, row, &load::<4>(rec, CREW + 4 * u), digits_for(m));
     put_bytes(out, end, b"\n")
 }
 
@@ -36,10 +36,8 @@ pub fn put_rows(rec: &[u64], n: usize, m: u64, out: &mut [u8], start: usize) -> 
     ensures out_after { out.new ≡ put_at out.old start (row_lines m (rows_at n rec.now crew_start) n) }
 {
     let mut at = start;
-    let mut u = 0;
-    while u < n {
+    for u in 0..n {
         at = put_row(rec, u, m, out, at);
-        u += 1;
     }
     at
 }

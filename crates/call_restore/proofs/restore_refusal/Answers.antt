@@ -7,7 +7,7 @@ pub returns-then-rec-k : goal.returns-then-rec-k
 returns-then-rec-k c = λ index seniors ready. restore_6 _ index seniors ready _ c.if-rec-k.true
 
 pub returns-then-contains : goal.returns-then-contains
-returns-then-contains c = λ index seniors ready. restore_7 _ index seniors ready _ c.if-rec-k.false _ _ c.load128.ensures c.contains.ensures c.if-contains.true
+returns-then-contains c = λ index seniors ready. restore_7 _ index seniors ready _ c.if-rec-k.false _ _ c.load.ensures c.contains.ensures c.if-contains.true
 
 pub returns : goal.returns
-returns c = λ index seniors ready. restore_0 _ index seniors ready _ c.if-rec-k.false _ _ c.load128.ensures c.contains.ensures c.if-contains.false
+returns c = λ index seniors ready. restore_0 _ index seniors ready _ c.if-rec-k.false _ _ c.load.ensures c.contains.ensures c.if-contains.false

@@ -1,50 +1,38 @@
 -- The entrance, the machine's own checks, and then the record without the role.
 -- Assumes nothing.
 use borrow.Author.Rules.{rules}
-use mathlib.Core.Path.{◌≡◌, refl, sym, ◌∙◌}
-use Rattle.model.specs.Machine.{refusal}
-use Rattle.model.specs.Machine.Call.{strike}
-use Rattle.model.specs.Record.{state_of}
-use Rattle.model.specs.Calls.{unfit}
+use mathlib.Core.Path.{sym}
+use Rattle.std.proofs.lemmas.Result.{err_from_is_err_and}
 use Rattle.model.proofs.Refusals.{strike_iff}
 use Rattle.stores.proofs.Stores.{blank}
-use Rattle.rows.specs.Linked.{Ready}
 use Rattle.rows.proofs.Linking.{reindexed}
+use Rattle.refusals.proofs.Numbers.{some_number}
 use Rattle.calls_edit.proofs.Edits.{edit_unfit, edit_refused, fit_length, fit_few, fit_number}
-use Rattle.call_strike.proofs.Striking.{struck, refused}
+use Rattle.call_strike.proofs.Striking.{struck}
 use Rattle.call_strike.proofs.panel_strike.Goals as goal
-use Rattle.call_strike.proofs.panel_strike.Goals.{Else-code-ne0, Else-unfit-ne0}
 
-fit : (c : Else-unfit-ne0) → unfit c.args.rec.now ≡ 0
-fit c = sym c.enter-unfit.ensures.number ∙ c.if-unfit-ne0.false
+pub enter-requires : goal.enter-requires
+enter-requires c = record { index_len = search rules; seniors_len = search rules; by_index = blank 256 }
 
--- what the entrance filled
-entered : (c : Else-unfit-ne0) → Ready (state_of c.args.rec.now) c.args.rec.now c.enter-unfit.new.index c.enter-unfit.new.seniors
-entered c = c.enter-unfit.ensures.ready c.if-unfit-ne0.false
+pub returns-in_err-enter : goal.returns-in_err-enter
+returns-in_err-enter c = let p = err_from_is_err_and c.from_residual.result c.from_residual.ensures.1 in
+    rw (p.1, p.2) (edit_unfit _ _ _ (some_number _) c.in_err-enter.ensures.number)
 
-passed : (c : Else-code-ne0) → refusal (state_of c.args.rec.now) (strike c.args.k) ≡ 0
-passed c = sym (c.strike_refusal-code.ensures.by_index _ (entered (goal.at.Else-code-ne0 c).Else-unfit-ne0)) ∙ c.if-code-ne0.false
-
-pub enter-unfit-requires : goal.enter-unfit-requires
-enter-unfit-requires c = record { index_len = search rules; seniors_len = search rules; by_index = blank 256 }
-
-pub returns-then-unfit-ne0 : goal.returns-then-unfit-ne0
-returns-then-unfit-ne0 c = refused _ _ _ _ refl (edit_unfit _ _ _ c.if-unfit-ne0.true c.enter-unfit.ensures.number)
-
-pub strike_refusal-code-requires : goal.strike_refusal-code-requires
-strike_refusal-code-requires c = let z = fit (goal.at.strike_refusal-code-requires c).Else-unfit-ne0 in
+pub strike_refusal-requires : goal.strike_refusal-requires
+strike_refusal-requires c = let z = sym c.in_ok-enter.ensures.number in
     record { rec_len = fit_length _ z; rec_bound = fit_few _ z; index_len = search rules }
 
-pub returns-then-code-ne0 : goal.returns-then-code-ne0
-returns-then-code-ne0 c = refused _ _ _ _ refl (edit_refused _ _ (fit (goal.at.returns-then-code-ne0 c).Else-unfit-ne0) _ c.if-code-ne0.true (c.strike_refusal-code.ensures.by_index _ (entered (goal.at.returns-then-code-ne0 c).Else-unfit-ne0)))
+pub returns-in_err-strike_refusal : goal.returns-in_err-strike_refusal
+returns-in_err-strike_refusal c = let p = err_from_is_err_and c.from_residual-in_err-strike_refusal.result c.from_residual-in_err-strike_refusal.ensures.1 in
+    rw (p.1, p.2) (edit_refused _ _ (sym c.in_ok-enter.ensures.number) _ (some_number _) (c.in_err-strike_refusal.ensures.by_index _ c.in_ok-enter.ensures.ready))
 
 pub take_out-requires : goal.take_out-requires
-take_out-requires c = let z = fit (goal.at.take_out-requires c).Else-unfit-ne0 in
-    record { rec_len = fit_length _ z; index_len = search rules; seniors_len = search rules; k_bound = fit_number _ z _ ((strike_iff _ _).0 (passed (goal.at.take_out-requires c).Else-code-ne0)).0 }
+take_out-requires c = let z = sym c.in_ok-enter.ensures.number in
+    let e = sym (c.in_ok-strike_refusal.ensures.by_index _ c.in_ok-enter.ensures.ready) in
+    record { rec_len = fit_length _ z; index_len = search rules; seniors_len = search rules; k_bound = fit_number _ z _ ((strike_iff _ _).0 e).0 }
 
 pub returns : goal.returns
-returns c = let z = fit (goal.at.returns c).Else-unfit-ne0 in
-    let was = entered (goal.at.returns c).Else-unfit-ne0 in
-    let e = passed (goal.at.returns c).Else-code-ne0 in
-    let still = reindexed _ _ _ _ _ was (c.strike_refusal-code.ensures.indexed _ was.indexed) in
-    struck _ _ _ _ _ _ z e refl (c.take_out.ensures _ still ((strike_iff _ _).0 e).1)
+returns c = let was = c.in_ok-enter.ensures.ready in
+    let e = sym (c.in_ok-strike_refusal.ensures.by_index _ was) in
+    let still = reindexed _ _ _ _ _ was (c.in_ok-strike_refusal.ensures.indexed _ was.indexed) in
+    struck _ _ _ _ _ (sym c.in_ok-enter.ensures.number) e (c.take_out.ensures _ still ((strike_iff _ _).0 e).1)

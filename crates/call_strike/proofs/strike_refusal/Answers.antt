@@ -9,7 +9,7 @@ pub returns-then-rec-k : goal.returns-then-rec-k
 returns-then-rec-k c = record { by_index = λ seniors ready. strike_6 _ _ seniors ready _ c.if-rec-k.true; indexed = λ ρ ix. ix }
 
 pub returns-then-not-contains : goal.returns-then-not-contains
-returns-then-not-contains c = record { by_index = λ seniors ready. strike_7 _ _ seniors ready _ c.if-rec-k.false _ _ c.load128.ensures c.contains.ensures c.if-not-contains.true; indexed = λ ρ ix. ix }
+returns-then-not-contains c = record { by_index = λ seniors ready. strike_7 _ _ seniors ready _ c.if-rec-k.false _ _ c.load.ensures c.contains.ensures c.if-not-contains.true; indexed = λ ρ ix. ix }
 
 pub can_strike-requires : goal.can_strike-requires
 can_strike-requires c = let given = c.requires in
@@ -20,13 +20,13 @@ can_strike-requires c = let given = c.requires in
 pub returns-then-not-can_strike : goal.returns-then-not-can_strike
 returns-then-not-can_strike c = record {
   by_index = λ seniors ready.
-      strike_8 _ _ seniors ready _ c.if-rec-k.false _ _ c.load128.ensures c.contains.ensures c.if-not-contains.false _ c.can_strike.ensures.value c.if-not-can_strike.true;
+      strike_8 _ _ seniors ready _ c.if-rec-k.false _ _ c.load.ensures c.contains.ensures c.if-not-contains.false _ c.can_strike.ensures.value c.if-not-can_strike.true;
   indexed = c.can_strike.ensures.indexed;
 }
 
 pub returns : goal.returns
 returns c = record {
   by_index = λ seniors ready.
-      strike_0 _ _ seniors ready _ c.if-rec-k.false _ _ c.load128.ensures c.contains.ensures c.if-not-contains.false _ c.can_strike.ensures.value c.if-not-can_strike.false;
+      strike_0 _ _ seniors ready _ c.if-rec-k.false _ _ c.load.ensures c.contains.ensures c.if-not-contains.false _ c.can_strike.ensures.value c.if-not-can_strike.false;
   indexed = c.can_strike.ensures.indexed;
 }

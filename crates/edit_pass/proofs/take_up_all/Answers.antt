@@ -5,7 +5,7 @@ use mathlib.Core.Path.{refl}
 use native.Mathlib.Omega.{arith}
 use mathlib.Core.List.{◌++◌}
 use lib.ListN.{drop}
-use Rattle.sets_128.specs.Held.{set128}
+use Rattle.sets.specs.Held.{set_of}
 use Rattle.hierarchy.proofs.Sieving.{fewer, not_empty, is_empty_lem}
 use Rattle.stores.proofs.Stores.{part_back}
 use Rattle.edit_work.specs.Work.{down_start}
@@ -17,7 +17,7 @@ use Rattle.edit_pass.proofs.take_up_all.Goals.{After-remove-todo}
 
 fewer-left : (c : After-remove-todo)
     → Taking c.args.rec.now c.args.index.now c.args.terms c.args.turn c.take_up-run.new.rec
-    (c.take_up-run.new.seniors ++ drop down_start c.loop-terms.work) c.take_up-run.result (set128 c.remove-todo.result) c.foremost-front.result.rank
+    (c.take_up-run.new.seniors ++ drop down_start c.loop-terms.work) c.take_up-run.result (set_of c.remove-todo.result) c.foremost-front.result.rank
 fewer-left c =
     let turn = c.take_up-run in
     let inv = c.loop-terms.invariant.1 in

@@ -2,7 +2,6 @@
 -- Assumes nothing.
 use borrow.Author.Rules.{rules}
 use mathlib.Core.Path.{refl}
-use native.Mathlib.Omega.{arith}
 use Rattle.edit_trials.proofs.Runs.{strike_below, trial_few}
 use Rattle.edit_turn.proofs.Turns.{turn_dropped, turn_stayed, turn_struck}
 use Rattle.edit_turn.proofs.take_up.Goals as goal
@@ -36,12 +35,6 @@ pub returns-then-not-tolerated : goal.returns-then-not-tolerated
 returns-then-not-tolerated c = let given = c.requires in
     turn_stayed _ _ _ _ _ _ given.underway _ given.so c.removable.ensures c.if-not-removable.false _ c.if_struck-trial.ensures
     _ c.weigh-quality.ensures.value _ c.tolerated.ensures c.if-not-tolerated.true _ refl refl
-
-pub overflow_add-result : goal.overflow_add-result
-overflow_add-result c =
-    let fewer = c.requires.underway.fewer in
-    let few = c.requires.examined_lt_most_examined in
-    omega arith
 
 pub returns : goal.returns
 returns c = let given = c.requires in

@@ -1,14 +1,14 @@
 -- A column for each, or all 256 of them.
 -- Assumes nothing.
 use Prim.Native.Nat.{◌^◌, ◌<◌}
-use Rattle.sets_256.specs.Held.{set256}
-use Rattle.sets.proofs.Items.{item_below}
+use Rattle.sets.specs.Held.{set_of}
+use Rattle.sets.proofs.Members.{item_below}
 use Rattle.sets.proofs.Written.{words}
-use Rattle.sets_256.proofs.Held.{held256}
+use Rattle.sets.proofs.Held.{held256}
 use Rattle.holders.proofs.fill_columns_for.Goals as goal
 use Rattle.holders.proofs.fill_columns_for.Goals.{Start}
 
-small : (c : Start) → set256 c.args.permissions < 2 ^ 256
+small : (c : Start) → set_of c.args.permissions < 2 ^ 256
 small c = search (words, held256)
 
 pub returns : goal.returns

@@ -4,14 +4,14 @@ use mathlib.Core.Path.{◌≡◌}
 use Prim.Native.Nat.{◌^◌, ◌<◌}
 use native.Mathlib.Omega.{arith}
 use lib.ListN.{length}
-use Rattle.sets_256.specs.Held.{set256}
+use Rattle.sets.specs.Held.{set_of}
 use Rattle.sets.proofs.Written.{words}
-use Rattle.sets_256.proofs.Held.{held256}
+use Rattle.sets.proofs.Held.{held256}
 use Rattle.holders.proofs.Holding.{index_kept, holders_read}
 use Rattle.holders.proofs.fill_holders.Goals as goal
 use Rattle.holders.proofs.fill_holders.Goals.{After-fill_columns_for, Start}
 
-small : (c : Start) → set256 c.args.permissions < 2 ^ 256
+small : (c : Start) → set_of c.args.permissions < 2 ^ 256
 small c = search (words, held256)
 
 full-part : (c : After-fill_columns_for) → length c.fill_columns_for.new.out ≡ 512

@@ -15,7 +15,7 @@ is_known-requires c = c.loop-i.invariant.2.size
 pub loop-i-preserved-then-is_known : goal.loop-i-preserved-then-is_known
 loop-i-preserved-then-is_known c = let inv = c.loop-i.invariant in (
   inv.0,
-  walking_known _ _ _ _ _ inv.1 _ _ c.load256-x.ensures c.intersection-y.ensures c.loop-i-test.true
+  walking_known _ _ _ _ _ inv.1 _ _ c.load-x.ensures c.intersection-y.ensures c.loop-i-test.true
       _ inv.2 (rw c.if-is_known.true at c.is_known.ensures),
   inv.2,
 )
@@ -23,14 +23,15 @@ loop-i-preserved-then-is_known c = let inv = c.loop-i.invariant in (
 pub admit-requires : goal.admit-requires
 admit-requires c = let inv = c.loop-i.invariant in (inv.0, inv.1.grows, inv.2)
 
-pub returns-in_default : goal.returns-in_default
-returns-in_default c = walking_full _ _ _ _ _ c.loop-i.invariant.1 _ _ c.load256-x.ensures c.intersection-y.ensures c.loop-i-test.true
-    (subst (Known _ _ _) c.if-is_known.false c.is_known.ensures) c.requires.1 (subst (Adds _ _ _) c.in_default.is c.admit.ensures)
+pub returns-in_err-count : goal.returns-in_err-count
+returns-in_err-count c = rw c.from_residual.ensures
+    (walking_full _ _ _ _ _ c.loop-i.invariant.1 _ _ c.load-x.ensures c.intersection-y.ensures c.loop-i-test.true
+    (subst (Known _ _ _) c.if-is_known.false c.is_known.ensures) c.requires.1 (subst (Adds _ _ _) c.in_err-count.was c.admit.ensures))
 
 pub loop-i-preserved : goal.loop-i-preserved
-loop-i-preserved c = let new = subst (Adds _ _ _) c.in-Count.is c.admit.ensures in (
+loop-i-preserved c = let new = subst (Adds _ _ _) c.in_ok-count.was c.admit.ensures in (
   new.0.frame,
-  walking_placed _ _ _ _ _ c.loop-i.invariant.1 _ _ c.load256-x.ensures c.intersection-y.ensures c.loop-i-test.true
+  walking_placed _ _ _ _ _ c.loop-i.invariant.1 _ _ c.load-x.ensures c.intersection-y.ensures c.loop-i-test.true
       (subst (Known _ _ _) c.if-is_known.false c.is_known.ensures) new.0,
   seen_held new.0 new.1,
 )

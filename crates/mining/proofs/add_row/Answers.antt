@@ -21,5 +21,5 @@ add_new-requires c = let given = c.requires in (
   given.1.grows,
   given.2,
   eqb-false _ _ (sym c.is_empty.ensures ∙ c.if-is_empty.false),
-  rw c.in-Missing.is at c.search.ensures,
+  rw c.in-Err.is at c.search.ensures,
 )

@@ -12,7 +12,7 @@ returns-in_default c = let given = c.requires in (
 )
 
 pub put-requires : goal.put-requires
-put-requires c = record { framed = c.requires.0; between = rw c.in-Missing.is at c.search.ensures }
+put-requires c = record { framed = c.requires.0; between = rw c.in-Err.is at c.search.ensures }
 
 pub returns : goal.returns
 returns c = let given = c.requires in

@@ -1,6 +1,7 @@
--- The table has the candidates of the rows before place i.
+-- The table has the candidates of the first u users.
 -- Assumes nothing.
 use Prim.Native.Nat.{ℕ}
+use native.Mathlib.Omega.{arith}
 use lib.ListN.{length-replicate}
 use mathlib.Core.Path.{subst}
 use Rattle.mining.specs.Mining.{Adds}
@@ -10,23 +11,23 @@ use Rattle.mining.proofs.Seeing.{seen_none}
 use Rattle.mining.proofs.Walking.{seen_held}
 use Rattle.mining.proofs.mine.Goals as goal
 
-pub loop-i-init : goal.loop-i-init
-loop-i-init c = (mining_none _ _ _ _ c.requires.1 c.requires.2, seen_none _ _ (length-replicate {A = ℕ} 512 0) (blank 512))
+pub loop-u-init : goal.loop-u-init
+loop-u-init c = (mining_none _ _ _ _ c.requires.1 c.requires.2, seen_none _ _ (length-replicate {A = ℕ} 512 0) (blank 512))
 
 pub add_row-requires : goal.add_row-requires
-add_row-requires c = let inv = c.loop-i.invariant in
+add_row-requires c = let inv = c.loop-u.invariant in
     (inv.0.holds.frame, mining_table _ _ _ _ inv.0, inv.1)
 
-pub returns-in_default : goal.returns-in_default
-returns-in_default c = mining_full _ _ _ _ c.loop-i.invariant.0 _ c.load256-r.ensures c.loop-i-test.true
-    (subst (Adds _ _ _) c.in_default.is c.add_row.ensures)
+pub returns-in_err-candidates : goal.returns-in_err-candidates
+returns-in_err-candidates c = rw c.from_residual.ensures
+    (mining_full _ _ _ _ c.loop-u.invariant.0 _ c.load.ensures (omega arith) (subst (Adds _ _ _) c.in_err-candidates.was c.add_row.ensures))
 
-pub loop-i-preserved : goal.loop-i-preserved
-loop-i-preserved c = let new = subst (Adds _ _ _) c.in-Count.is c.add_row.ensures in (
-  mining_more _ _ _ _ c.loop-i.invariant.0 _ c.load256-r.ensures c.loop-i-test.true new.0
+pub loop-u-preserved : goal.loop-u-preserved
+loop-u-preserved c = let new = subst (Adds _ _ _) c.in_ok-candidates.was c.add_row.ensures in (
+  mining_more _ _ _ _ c.loop-u.invariant.0 _ c.load.ensures (omega arith) new.0
       (λ w. (c.type_inv.table w).fits),
   seen_held new.0 new.1,
 )
 
 pub returns : goal.returns
-returns c = mining_all _ _ _ _ c.loop-i.invariant.0 c.loop-i-test.false
+returns c = mining_all _ _ _ _ c.loop-u.invariant.0 (omega arith)

@@ -1,13 +1,10 @@
 -- The word so far is what the first i digits make.
 -- Assumes nothing.
-use Prim.Native.Nat.{◌+◌, ◌-◌, ◌≤◌}
+use Prim.Native.Nat.{◌+◌, ◌≤◌}
 use Rattle.text_sets.specs.Hexadecimal.{hexadecimal_value}
 use lib.ListN.{length}
 use mathlib.Core.Path.{◌≡◌}
 use Rattle.text_sets.proofs.word_of.Given as goal
 
 abbrev pub invariant-loop-i : goal.invariant-loop-i
-invariant-loop-i l = (l.i ≤ l.d) × (l.at + l.d ≤ length l.text) × (l.v ≡ hexadecimal_value l.i l.text l.at)
-
-abbrev pub decreases-loop-i : goal.decreases-loop-i
-decreases-loop-i l = l.d - l.i
+invariant-loop-i l = (l.at + l.d ≤ length l.text) × (l.v ≡ hexadecimal_value l.i l.text l.at)

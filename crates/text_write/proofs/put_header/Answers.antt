@@ -1,11 +1,7 @@
 -- The header is a first line.
 -- Assumes nothing.
-use native.Mathlib.Omega.{arith}
 use Rattle.text_lines.specs.Format.{header_line}
 use Rattle.text_write.proofs.put_header.Goals as goal
-
-pub put_first_line-requires : goal.put_first_line-requires
-put_first_line-requires c = omega arith
 
 pub returns : goal.returns
 unfolding header_line

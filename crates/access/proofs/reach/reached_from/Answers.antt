@@ -4,15 +4,14 @@ use mathlib.Core.Path.{◌≡◌}
 use Prim.Native.Nat.{suc, ◌-◌}
 use native.Mathlib.Omega.{arith}
 use Rattle.access.proofs.Following.{following_none, following_more, following_all}
-use borrow.Author.Rules.{rules}
 use Rattle.access.proofs.reach.reached_from.Goals as goal
 
 pub loop-k-init : goal.loop-k-init
-loop-k-init c = (search rules, following_none _ _)
+loop-k-init c = following_none _ _
 
 pub loop-k-preserved : goal.loop-k-preserved
 loop-k-preserved c = let e : c.loop-k.k ≡ suc (c.loop-k.k - 1) = omega arith in
-    (search rules, following_more _ _ _ _ _ _ _ c.loop-k.invariant.1 e c.load128.ensures c.with_juniors-found.ensures)
+    following_more _ _ _ _ _ _ _ c.loop-k.invariant e c.load.ensures c.with_juniors-found.ensures
 
 pub returns : goal.returns
-returns c = following_all _ _ _ _ c.loop-k.invariant.1 (omega arith)
+returns c = following_all _ _ _ _ c.loop-k.invariant (omega arith)

@@ -1,19 +1,22 @@
 -- The first check that finds something.
 -- Assumes nothing.
+use borrow.Author.Rules.{rules}
 use mathlib.Core.Path.{sym, ◌∙◌}
+use Rattle.std.proofs.lemmas.Result.{err_from_is_err_and}
 use Rattle.model.specs.Calls.{unfit}
 use Rattle.model.proofs.Refusals.{length_check, or_else_first, or_else_next}
+use Rattle.refusals.proofs.Numbers.{some_number}
 use Rattle.calls.proofs.entrance.enter.Goals as goal
 
-pub returns-then-code-ne0 : goal.returns-then-code-ne0
+pub returns-in_err-length_refusal : goal.returns-in_err-length_refusal
 unfolding unfit
-returns-then-code-ne0 c = record { number = sym (or_else_first _ _ (λ e. c.if-code-ne0.true (c.length_refusal-code.ensures ∙ e)) ∙ sym c.length_refusal-code.ensures); ready = λ e. absurd (c.if-code-ne0.true e) }
+returns-in_err-length_refusal c = let p = err_from_is_err_and c.from_residual.result c.from_residual.ensures.1 in let e = c.in_err-length_refusal.ensures in
+    rw (p.1, p.2) (record { number = e ∙ sym (or_else_first _ _ (λ z. some_number _ (e ∙ z))); ready = search rules })
 
-pub soundness_refusal-requires : goal.soundness_refusal-requires
-soundness_refusal-requires c = let given = c.requires in
-    record { rec_len = (length_check _).passed (sym c.length_refusal-code.ensures ∙ c.if-code-ne0.false); index_len = given.index_len; seniors_len = given.seniors_len; by_index = given.by_index }
+pub soundness_refusal-requires-clause-rec_len : goal.soundness_refusal-requires-clause-rec_len
+soundness_refusal-requires-clause-rec_len c = (length_check _).passed (sym c.in_ok-length_refusal.ensures)
 
 pub returns : goal.returns
 unfolding unfit
 returns c = let judged = c.soundness_refusal.ensures in
-    record { number = judged.number ∙ sym (or_else_next _ _ (sym c.length_refusal-code.ensures ∙ c.if-code-ne0.false)); ready = judged.ready }
+    record { number = judged.number ∙ sym (or_else_next _ _ (sym c.in_ok-length_refusal.ensures)); ready = judged.ready }

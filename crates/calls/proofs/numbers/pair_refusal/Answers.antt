@@ -7,10 +7,7 @@ use borrow.Author.Rules.{rules}
 use Rattle.calls.proofs.numbers.pair_refusal.Goals as goal
 
 pub returns-then-n-u : goal.returns-then-n-u
-returns-then-n-u c = sym ((pair_check _ _ _ _).stops (λ h. let a = h.0 in let z : ⊥ = omega arith in z))
-
-pub returns-then-m-p : goal.returns-then-m-p
-returns-then-m-p c = sym ((pair_check _ _ _ _).stops (λ h. let a = h.1 in let z : ⊥ = omega arith in z))
+returns-then-n-u c = sym ((pair_check _ _ _ _).stops (λ h. let a = h.0 in let b = h.1 in let z : ⊥ = omega arith in z))
 
 pub returns : goal.returns
 returns c = sym ((pair_check _ _ _ _).passes (search rules, search rules))

@@ -9,7 +9,7 @@ use Rattle.columns.proofs.all.fill_columns_of.Goals as goal
 
 pub loop-j-init : goal.loop-j-init
 loop-j-init c = let none : min (64 * 0) c.args.c ≡ 0 = omega arith in
-    (search rules, search rules, rw none (filled_none 2 _ _))
+    (search rules, rw none (filled_none 2 _ _))
 
 pub fill_word-requires : goal.fill_word-requires
 fill_word-requires c = (search rules, search rules, search rules, omega arith, search rules, omega arith)
@@ -19,12 +19,9 @@ loop-j-preserved c = let l = c.loop-j in
     let a = c.args in
     let now : min (64 * l.j) a.c ≡ 64 * l.j = omega arith in
     let next : 64 * l.j + min (a.c - 64 * l.j) 64 ≡ min (64 * (l.j + 1)) a.c = omega arith in
-    (omega arith, omega arith, rw next at (c.fill_word.ensures a.out.now (rw now at l.invariant.2)))
-
-pub shape_of-out : goal.shape_of-out
-shape_of-out c = omega arith
+    (omega arith, rw next at (c.fill_word.ensures a.out.now (rw now at l.invariant.1)))
 
 pub returns : goal.returns
 returns c = let a = c.args in
     let whole : min (64 * c.loop-j.j) a.c ≡ a.c = omega arith in
-    rw whole at c.loop-j.invariant.2
+    rw whole at c.loop-j.invariant.1

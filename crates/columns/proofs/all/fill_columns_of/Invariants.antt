@@ -1,7 +1,7 @@
 -- The entries of the words before j are filled.
 -- Assumes nothing.
 use mathlib.Core.Path.{◌≡◌}
-use Prim.Native.Nat.{◌+◌, ◌-◌, ◌*◌, ◌≤◌, min}
+use Prim.Native.Nat.{◌*◌, min}
 use lib.ListN.{length}
 use Rattle.sets.specs.Sets.{has, collect}
 use Rattle.model.specs.Lists.{set_at}
@@ -9,7 +9,4 @@ use Rattle.tables.specs.Tables.{Filled}
 use Rattle.columns.proofs.all.fill_columns_of.Given as goal
 
 abbrev pub invariant-loop-j : goal.invariant-loop-j
-invariant-loop-j l = (64 * l.j ≤ l.c + 63) × (length l.out ≡ length l.initial.out) × Filled 2 (min (64 * l.j) l.c) (λ k. collect l.n (λ i. has (set_at l.w l.table (l.w * i)) k)) l.initial.out l.out
-
-abbrev pub decreases-loop-j : goal.decreases-loop-j
-decreases-loop-j l = l.c - 64 * l.j
+invariant-loop-j l = (length l.out ≡ length l.initial.out) × Filled 2 (min (64 * l.j) l.c) (λ k. collect l.n (λ i. has (set_at l.w l.table (l.w * i)) k)) l.initial.out l.out

@@ -4,24 +4,21 @@ use borrow.Author.Rules.{rules}
 use mathlib.Core.Path.{◌≡◌}
 use native.Mathlib.Omega.{arith}
 use Prim.Native.Nat.{◌^◌, ◌<◌}
-use Rattle.sets_128.specs.Held.{set128}
+use Rattle.sets.specs.Held.{set_of}
 use Rattle.sets.proofs.Written.{words}
-use Rattle.sets_128.proofs.Held.{held128}
+use Rattle.sets.proofs.Held.{held128}
 use Rattle.tables.proofs.Tables.{filled_none, filled_more}
 use Rattle.columns.proofs.all.fill_few_columns.Goals as goal
 
 pub loop-k-init : goal.loop-k-init
-loop-k-init c = (search rules, search rules, filled_none 2 _ _)
+loop-k-init c = (search rules, filled_none 2 _ _)
 
 pub loop-k-preserved : goal.loop-k-preserved
-loop-k-preserved c = let small : set128 c.column.result < 2 ^ 128 = search (words, held128) in
+loop-k-preserved c = let small : set_of c.column.result < 2 ^ 128 = search (words, held128) in
     let l = c.loop-k in
     let out = c.args.out.now in
-    (search rules, omega arith, rw c.store128.ensures (filled_more 2 _ _ _ out l.out l.invariant.2 (omega arith) small c.column.ensures))
-
-pub shape_of-out : goal.shape_of-out
-shape_of-out c = omega arith
+    (omega arith, rw c.store.ensures (filled_more 2 _ _ _ out l.out l.invariant.1 (omega arith) small c.column.ensures))
 
 pub returns : goal.returns
 returns c = let e : c.loop-k.k ≡ c.args.c = omega arith in
-    rw e at c.loop-k.invariant.2
+    rw e at c.loop-k.invariant.1

@@ -1,7 +1,7 @@
 -- The entries below k are filled.
 -- Assumes nothing.
 use mathlib.Core.Path.{◌≡◌}
-use Prim.Native.Nat.{◌-◌, ◌*◌, ◌≤◌}
+use Prim.Native.Nat.{◌*◌}
 use lib.ListN.{length}
 use Rattle.sets.specs.Sets.{has, collect}
 use Rattle.model.specs.Lists.{set_at}
@@ -9,7 +9,4 @@ use Rattle.tables.specs.Tables.{Filled}
 use Rattle.columns.proofs.all.fill_few_columns.Given as goal
 
 abbrev pub invariant-loop-k : goal.invariant-loop-k
-invariant-loop-k l = (l.k ≤ l.c) × (length l.out ≡ 256) × (Filled 2 l.k (λ i. collect l.n (λ j. has (set_at 2 l.table (2 * j)) i)) l.initial.out l.out)
-
-abbrev pub decreases-loop-k : goal.decreases-loop-k
-decreases-loop-k l = l.c - l.k
+invariant-loop-k l = (length l.out ≡ 256) × (Filled 2 l.k (λ i. collect l.n (λ j. has (set_at 2 l.table (2 * j)) i)) l.initial.out l.out)

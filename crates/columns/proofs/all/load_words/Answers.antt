@@ -13,7 +13,7 @@ room : (c : In-loop-q) → c.args.w * (c.args.from + c.loop-q.q) + c.args.j < le
 room c = c.requires.3 c.loop-q.q (search rules)
 
 pub loop-q-init : goal.loop-q-init
-loop-q-init c = (search rules, search rules, loaded_none _ _)
+loop-q-init c = (search rules, loaded_none _ _)
 
 pub overflow_mul-block : goal.overflow_mul-block
 overflow_mul-block c = omega (arith, room (goal.at.overflow_mul-block c).In-loop-q)
@@ -28,11 +28,8 @@ pub bounds-table-w : goal.bounds-table-w
 bounds-table-w c = room (goal.at.bounds-table-w c).In-loop-q
 
 pub loop-q-preserved : goal.loop-q-preserved
-loop-q-preserved c = (search rules, simp length-set (omega arith), loaded_more _ _ _ _ (search rules) c.loop-q.invariant.2)
-
-pub shape_of-block : goal.shape_of-block
-shape_of-block c = omega arith
+loop-q-preserved c = (simp length-set (omega arith), loaded_more _ _ _ _ (search rules) c.loop-q.invariant.1)
 
 pub returns : goal.returns
 returns c = let e : c.loop-q.q ≡ c.args.count = omega arith in
-    rw e at c.loop-q.invariant.2
+    rw e at c.loop-q.invariant.1

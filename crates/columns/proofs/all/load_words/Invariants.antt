@@ -1,13 +1,10 @@
 -- The words before q are loaded.
 -- Assumes nothing.
 use mathlib.Core.Path.{◌≡◌}
-use Prim.Native.Nat.{◌+◌, ◌-◌, ◌*◌, ◌≤◌}
+use Prim.Native.Nat.{◌+◌, ◌*◌}
 use lib.ListN.{length, get_or}
 use Rattle.columns.specs.Loading.{Loaded}
 use Rattle.columns.proofs.all.load_words.Given as goal
 
 abbrev pub invariant-loop-q : goal.invariant-loop-q
-invariant-loop-q l = (l.q ≤ l.count) × (length l.block ≡ 64) × Loaded l.q (λ i. get_or l.table (l.w * (l.from + i) + l.j) 0) l.initial.block l.block
-
-abbrev pub decreases-loop-q : goal.decreases-loop-q
-decreases-loop-q l = l.count - l.q
+invariant-loop-q l = (length l.block ≡ 64) × Loaded l.q (λ i. get_or l.table (l.w * (l.from + i) + l.j) 0) l.initial.block l.block

@@ -5,33 +5,29 @@ use mathlib.Core.Path.{◌≡◌, ◌∙◌}
 use native.Mathlib.Nat.{add-zero}
 use native.Mathlib.Omega.{arith}
 use Prim.Native.Nat.{◌+◌, ◌^◌, ◌<◌}
-use Rattle.sets_128.specs.Held.{set128}
+use Rattle.sets.specs.Held.{set_of}
 use Rattle.sets.proofs.Written.{words}
-use Rattle.sets_128.proofs.Held.{held128}
+use Rattle.sets.proofs.Held.{held128}
 use Rattle.tables.proofs.Tables.{filled_more}
 use Rattle.columns.proofs.all.store_pairs.Goals as goal
 
 pub loop-b-init : goal.loop-b-init
-loop-b-init c = (search rules, search rules, λ f before e h. rw (add-zero c.args.at) h)
+loop-b-init c = (search rules, λ f before e h. rw (add-zero c.args.at) h)
 
-pub store128-requires : goal.store128-requires
-store128-requires c = omega arith
+pub store-requires : goal.store-requires
+store-requires c = omega arith
 
 pub loop-b-preserved : goal.loop-b-preserved
-loop-b-preserved c = let small : set128 c.from_words.result < 2 ^ 128 = search (words, held128) in
+loop-b-preserved c = let small : set_of c.from_words.result < 2 ^ 128 = search (words, held128) in
     let l = c.loop-b in
     let a = c.args in
     let next : a.at + (l.b + 1) ≡ a.at + l.b + 1 = omega arith in (
-      search rules,
       omega arith,
       λ f before e h.
-          rw (next, c.store128.ensures)
-          (filled_more 2 (a.at + l.b) _ f before l.out (l.invariant.2 f before e h) (omega arith) small (c.from_words.ensures ∙ e l.b (search rules))),
+          rw (next, c.store.ensures)
+          (filled_more 2 (a.at + l.b) _ f before l.out (l.invariant.1 f before e h) (omega arith) small (c.from_words.ensures ∙ e l.b (search rules))),
     )
-
-pub shape_of-out : goal.shape_of-out
-shape_of-out c = omega arith
 
 pub returns : goal.returns
 returns c = let e : c.loop-b.b ≡ c.args.count = omega arith in
-    λ f before h k. rw e at (c.loop-b.invariant.2 f before h k)
+    λ f before h k. rw e at (c.loop-b.invariant.1 f before h k)

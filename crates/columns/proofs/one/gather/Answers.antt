@@ -15,7 +15,7 @@ room : (c : In-loop-q) → c.args.w * (c.args.from + c.loop-q.q) + c.args.j < le
 room c = c.requires.3 c.loop-q.q (search rules)
 
 pub loop-q-init : goal.loop-q-init
-loop-q-init c = (search rules, sym (collect-zero _))
+loop-q-init c = sym (collect-zero _)
 
 pub overflow_mul-w : goal.overflow_mul-w
 overflow_mul-w c = omega (arith, room (goal.at.overflow_mul-w c).In-loop-q)
@@ -30,8 +30,8 @@ pub bounds-table-w : goal.bounds-table-w
 bounds-table-w c = room (goal.at.bounds-table-w c).In-loop-q
 
 pub loop-q-preserved : goal.loop-q-preserved
-loop-q-preserved c = (search rules, rw (test_item _ _) at c.with_bit-bits.ensures ∙ collect-bit _ _ _ (omega arith) c.loop-q.invariant.1)
+loop-q-preserved c = rw (test_item _ _) at c.with_bit-bits.ensures ∙ collect-bit _ _ _ (omega arith) c.loop-q.invariant
 
 pub returns : goal.returns
 returns c = let e : c.loop-q.q ≡ c.args.count = omega arith in
-    rw e at c.loop-q.invariant.1
+    rw e at c.loop-q.invariant

@@ -1,11 +1,8 @@
--- No role to do has a key above `rank`.
+-- No role to do has a key from `rank` on.
 -- Assumes nothing.
-use Rattle.sets_128.specs.Held.{set128}
+use Rattle.sets.specs.Held.{set_of}
 use Rattle.edit_order.proofs.Leading.{Sinking}
 use Rattle.edit_order.proofs.front.foremost.Given as goal
 
-abbrev pub invariant-loop-front : goal.invariant-loop-front
-invariant-loop-front l = Sinking l.ranks (set128 l.todo) l.top (set128 l.front) l.rank
-
-abbrev pub decreases-loop-front : goal.decreases-loop-front
-decreases-loop-front l = l.rank
+abbrev pub invariant-loop-rank : goal.invariant-loop-rank
+invariant-loop-rank l = Sinking l.ranks (set_of l.todo) l.top l.rank

@@ -3,7 +3,6 @@
 use mathlib.Core.Path.{◌≡◌, refl, sym, ◌∙◌}
 use mathlib.Core.List.{List}
 use Prim.Native.Nat.{ℕ}
-use native.Mathlib.Omega.{arith}
 use Rattle.sets.specs.Sets.{◌∪◌, single}
 use Rattle.model.specs.Quality.{quality}
 use Rattle.model.specs.Record.{state_of}
@@ -29,7 +28,7 @@ restorable c =
       afresh = ready.afresh;
       indexed = ready.indexed;
       candidate = (number_known _ _ _ ready _ given.k_bound).0;
-      absent = sym (stands_read _ _ _ ready _ _ _ c.load128.ensures c.contains.ensures) ∙ c.if-contains.false;
+      absent = sym (stands_read _ _ _ ready _ _ _ c.load.ensures c.contains.ensures) ∙ c.if-contains.false;
     }
 
 -- the quality with it, weighed
@@ -48,7 +47,7 @@ returns-then-contains c = let given = c.requires in
     record {
       in_step = given.in_step;
       same_crew = crew_same _;
-      run = turn_stands _ _ _ _ (sym (stands_read _ _ _ given.in_step.ready _ _ _ c.load128.ensures c.contains.ensures) ∙ c.if-contains.true);
+      run = turn_stands _ _ _ _ (sym (stands_read _ _ _ given.in_step.ready _ _ _ c.load.ensures c.contains.ensures) ∙ c.if-contains.true);
     }
 
 pub if_restored-trial-requires : goal.if_restored-trial-requires
@@ -60,9 +59,6 @@ pub weigh-quality-requires : goal.weigh-quality-requires
 weigh-quality-requires c = let given = c.requires in
     let ready = given.in_step.ready in
     record { few = trial_few _ _ _ ready _ (restore_below _ _ _ ready _ (restorable (goal.at.weigh-quality-requires c).Else-contains).candidate) _ c.if_restored-trial.ensures.counts; so = given.so }
-
-pub overflow_add-examined : goal.overflow_add-examined
-overflow_add-examined c = let l = c.requires.changed_le_turn_room.1 in omega arith
 
 pub put_back_at-requires : goal.put_back_at-requires
 put_back_at-requires c = let given = c.requires in

@@ -11,46 +11,26 @@ use Rattle.edit_review.proofs.walk.review_pass.Goals as goal
 pub loop-k-init : goal.loop-k-init
 loop-k-init c = let given = c.requires in
     let room = given.rec_len in
-    (omega arith, (room.0, room.2), passing_start _ _ _ _ _ given.in_step)
+    ((room.0, room.2), passing_start _ _ _ _ _ given.in_step)
 
 pub try_restore-run-requires : goal.try_restore-run-requires
 try_restore-run-requires c = let given = c.requires in
     let inv = c.loop-k.invariant in
-    let b = passing_bound _ _ _ _ _ _ _ _ inv.2 in
-    let n = passing_count _ _ _ _ _ _ _ _ inv.2 _ given.in_step in
+    let b = passing_bound _ _ _ _ _ _ _ _ inv.1 in
+    let n = passing_count _ _ _ _ _ _ _ _ inv.1 _ given.in_step in
     let few = ready_few _ _ _ given.in_step.ready in
     let room = given.changed_le_pass_room in
-    let t = c.loop-k-test.true in
     let x = b.0 in
     let y = b.1 in
     let u = room.0 in
     let v = room.1 in
-    record { in_step = inv.2.in_step; so = given.so; k_bound = omega arith; changed_le_turn_room = (omega arith, omega arith); rec_len = (inv.1.0, given.rec_len.1, inv.1.1) }
-
-pub overflow_add-k : goal.overflow_add-k
-overflow_add-k c = let few = ready_few _ _ _ c.requires.in_step.ready in
-    let t = c.loop-k-test.true in
-    omega arith
-
-pub loop-k-smaller : goal.loop-k-smaller
-loop-k-smaller c = let t = c.loop-k-test.true in omega arith
+    record { in_step = inv.1.in_step; so = given.so; k_bound = omega arith; changed_le_turn_room = (omega arith, omega arith); rec_len = (inv.0.0, given.rec_len.1, inv.0.1) }
 
 pub loop-k-preserved : goal.loop-k-preserved
 loop-k-preserved c = let inv = c.loop-k.invariant in
-    let t = c.loop-k-test.true in
-    (omega arith, (search rules, search rules), passing_more _ _ _ _ _ _ _ _ inv.2 _ _ _ c.try_restore-run.ensures)
-
-pub shape_of-rec : goal.shape_of-rec
-shape_of-rec c = let l = c.loop-k.invariant.1.0 in
-    let r = c.requires.rec_len.0 in
-    omega arith
-
-pub shape_of-seniors : goal.shape_of-seniors
-shape_of-seniors c = let l = c.loop-k.invariant.1.1 in
-    let r = c.requires.rec_len.2 in
-    omega arith
+    ((search rules, search rules), passing_more _ _ _ _ _ _ _ _ inv.1 _ _ _ c.try_restore-run.ensures)
 
 pub returns : goal.returns
 returns c = let inv = c.loop-k.invariant in
-    let e : c.loop-k.k ≡ get_or c.args.rec.now 2 0 = let l = inv.0 in let t = c.loop-k-test.false in omega arith in
-    rw e at inv.2
+    let e : c.loop-k.k ≡ get_or c.args.rec.now 2 0 = omega arith in
+    rw e at inv.1

@@ -8,7 +8,7 @@ use Rattle.edit_rows.proofs.change.juniors_to_rewrite.Goals as goal
 
 pub returns-then-is_empty : goal.returns-then-is_empty
 returns-then-is_empty c = c.empty.ensures
-    ∙ sym (when-true _ _ _ (ap (λ (x : ℕ). eqb x 0) (sym c.load128.ensures) ∙ sym c.is_empty.ensures ∙ c.if-is_empty.true))
+    ∙ sym (when-true _ _ _ (ap (λ (x : ℕ). eqb x 0) (sym c.load.ensures) ∙ sym c.is_empty.ensures ∙ c.if-is_empty.true))
 
 pub returns : goal.returns
-returns c = sym (when-false _ _ _ (ap (λ (x : ℕ). eqb x 0) (sym c.load128.ensures) ∙ sym c.is_empty.ensures ∙ c.if-is_empty.false))
+returns c = sym (when-false _ _ _ (ap (λ (x : ℕ). eqb x 0) (sym c.load.ensures) ∙ sym c.is_empty.ensures ∙ c.if-is_empty.false))

@@ -4,5 +4,5 @@ use Rattle.edit_rows.proofs.Changing.{put_at_lem}
 use Rattle.edit_rows.proofs.change.put_back_at.Goals as goal
 
 pub returns : goal.returns
-returns c = λ st ready. put_at_lem st _ _ _ _ _ ready _ c.requires.k_bound _ _ _ _ _ _ c.load128.ensures c.insert-more.ensures
+returns c = λ st ready. put_at_lem st _ _ _ _ _ ready _ c.requires.k_bound _ _ _ _ _ _ c.load.ensures c.insert-more.ensures
     c.insert.ensures c.insert-2.ensures c.change_standing.ensures

@@ -8,6 +8,6 @@ pub returns : goal.returns
 returns c = let small = c.requires.k_bound in record {
   value = λ st lim e ix stands.
       c.removable.ensures st lim e (c.fill_holders.ensures.indexed (roles_of st) ix)
-      (rw (permissions_told st _ lim e _ _ small c.load256.ensures) at (c.fill_holders.ensures.holders_for st lim e)) stands;
+      (rw (permissions_told st _ lim e _ _ small c.load.ensures) at (c.fill_holders.ensures.holders_for st lim e)) stands;
   indexed = c.fill_holders.ensures.indexed;
 }

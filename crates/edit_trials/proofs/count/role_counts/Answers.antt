@@ -3,25 +3,23 @@
 use mathlib.Core.Path.{refl, ap₂}
 use Prim.Native.Nat.{◌+◌, ◌^◌, ◌<◌}
 use native.Mathlib.Omega.{arith}
-use Rattle.sets_128.specs.Held.{set128}
-use Rattle.sets_256.specs.Held.{set256}
+use Rattle.sets.specs.Held.{set_of}
 use Rattle.sets.proofs.Written.{words}
-use Rattle.sets_128.proofs.Held.{held128}
-use Rattle.sets_256.proofs.Held.{held256}
+use Rattle.sets.proofs.Held.{held128, held256}
 use Rattle.edit_trials.proofs.Counting.{count_small, role_all}
 use Rattle.edit_trials.proofs.count.role_counts.Goals as goal
 use Rattle.edit_trials.proofs.count.role_counts.Goals.{Start}
 
-members : (c : Start) → set128 c.args.members < 2 ^ 128
+members : (c : Start) → set_of c.args.members < 2 ^ 128
 members c = search (words, held128)
 
-permissions : (c : Start) → set256 c.args.permissions < 2 ^ 256
+permissions : (c : Start) → set_of c.args.permissions < 2 ^ 256
 permissions c = search (words, held256)
 
-above : (c : Start) → set128 c.args.above < 2 ^ 128
+above : (c : Start) → set_of c.args.above < 2 ^ 128
 above c = search (words, held128)
 
-below : (c : Start) → set128 c.args.below < 2 ^ 128
+below : (c : Start) → set_of c.args.below < 2 ^ 128
 below c = search (words, held128)
 
 pub overflow_add-links : goal.overflow_add-links

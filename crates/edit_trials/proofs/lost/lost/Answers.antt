@@ -5,4 +5,4 @@ use Rattle.edit_trials.proofs.Counting.{lost_all}
 use Rattle.edit_trials.proofs.lost.lost.Goals as goal
 
 pub returns : goal.returns
-returns c = lost_all _ _ _ _ _ _ _ _ c.load128-users.ensures c.load256-own.ensures refl c.shared128-members.ensures.value c.shared256-permissions.ensures.value c.shared128-links.ensures.value
+returns c = lost_all _ _ _ _ _ _ _ _ c.load-users.ensures c.load-own.ensures refl c.shared-members.ensures.value c.shared-permissions.ensures.value c.shared-links.ensures.value

@@ -4,27 +4,23 @@ use borrow.Author.Rules.{rules}
 use mathlib.Core.Path.{◌≡◌}
 use native.Mathlib.Omega.{arith}
 use Prim.Native.Nat.{◌^◌, ◌<◌}
-use Rattle.sets_128.specs.Held.{set128}
+use Rattle.sets.specs.Held.{set_of}
 use Rattle.sets.proofs.Written.{words}
-use Rattle.sets_128.proofs.Held.{held128}
+use Rattle.sets.proofs.Held.{held128}
 use Rattle.tables.proofs.Tables.{filled_none, filled_more}
 use Rattle.edit_work.proofs.Reaching.{put_self}
 use Rattle.edit_work.proofs.fill.fill_down.Goals as goal
 
 pub loop-k-init : goal.loop-k-init
-loop-k-init c = (search rules, search rules, filled_none 2 _ _)
+loop-k-init c = (search rules, filled_none 2 _ _)
 
 pub loop-k-preserved : goal.loop-k-preserved
-loop-k-preserved c = let small : set128 c.insert.result < 2 ^ 128 = search (words, held128) in (
-  search rules,
+loop-k-preserved c = let small : set_of c.insert.result < 2 ^ 128 = search (words, held128) in (
   omega arith,
-  rw c.store128.ensures
-      (filled_more 2 _ _ _ c.args.down.now c.loop-k.down c.loop-k.invariant.2 (omega arith) small (put_self _ _ _ _ (omega arith) c.load128.ensures c.insert.ensures)),
+  rw c.store.ensures
+      (filled_more 2 _ _ _ c.args.down.now c.loop-k.down c.loop-k.invariant.1 (omega arith) small (put_self _ _ _ _ (omega arith) c.load.ensures c.insert.ensures)),
 )
-
-pub shape_of-down : goal.shape_of-down
-shape_of-down c = omega arith
 
 pub returns : goal.returns
 returns c = let e : c.loop-k.k ≡ c.args.c = omega arith in
-    rw e at c.loop-k.invariant.2
+    rw e at c.loop-k.invariant.1

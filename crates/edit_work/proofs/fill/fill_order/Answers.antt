@@ -5,15 +5,15 @@ use mathlib.Core.Path.{◌≡◌}
 use native.Mathlib.Omega.{arith}
 use lib.ListN.{length}
 use Rattle.edit_work.specs.Work.{work_length, samples_start}
-use Rattle.sets_128.specs.Held.{set128}
+use Rattle.sets.specs.Held.{set_of}
 use Rattle.sets.proofs.Written.{words}
-use Rattle.sets_128.proofs.Held.{held128}
+use Rattle.sets.proofs.Held.{held128}
 use Rattle.edit_work.proofs.Reaching.{first_found}
 use Rattle.edit_work.proofs.Work.{reached_same, left_alone, prepared}
 use Rattle.edit_work.proofs.fill.fill_order.Goals as goal
 use Rattle.edit_work.proofs.fill.fill_order.Goals.{After-first_holders}
 
-narrow : (c : After-first_holders) → set128 c.first_holders.result < 2 ^ 128
+narrow : (c : After-first_holders) → set_of c.first_holders.result < 2 ^ 128
 narrow c = search (words, held128)
 
 pub fill_further-requires : goal.fill_further-requires
@@ -29,7 +29,7 @@ returns c = let w1 = c.fill_reach.new.work in
     let size : length w3 ≡ work_length = omega arith in
     let kept2 = c.fill_samples-count.ensures.unchanged in
     let kept3 = c.fill_further.ensures.unchanged in
-    let stored = c.store128.ensures in record {
+    let stored = c.store.ensures in record {
       work_unchanged = left_alone w1 w2 w3 _ _ size kept2 kept3 stored c.args.work.now c.requires.work_len c.fill_reach.ensures.unchanged;
       prepared = λ ρ ec em numbered ix held.
           prepared w1 w2 w3 _ _ size kept2 kept3 stored _ (narrow (goal.at.returns c).After-first_holders) ρ (c.fill_reach.ensures.up_and_down ρ ec numbered ix) (c.fill_samples-count.ensures.by_index ρ ec ix)

@@ -1,11 +1,7 @@
 -- The entries before i are filled.
 -- Assumes nothing.
-use Prim.Native.Nat.{◌-◌}
 use Rattle.edit_work.proofs.Narrowing.{FurtherFilling}
 use Rattle.edit_work.proofs.further.fill_further.Given as goal
 
 abbrev pub invariant-loop-i : goal.invariant-loop-i
 invariant-loop-i l = FurtherFilling l.count l.initial.work l.work l.i
-
-abbrev pub decreases-loop-i : goal.decreases-loop-i
-decreases-loop-i l = l.count - l.i

@@ -1,17 +1,16 @@
 -- The picks of the entries before p are found.
 -- Assumes nothing.
-use borrow.Author.Rules.{rules}
 use mathlib.Core.Path.{◌≡◌}
 use native.Mathlib.Omega.{arith}
 use Rattle.edit_work.proofs.Reaching.{lowest-none, lowest_more}
 use Rattle.edit_work.proofs.holders.first_holders.Goals as goal
 
 pub loop-p-init : goal.loop-p-init
-loop-p-init c = (search rules, lowest-none _ _ c.empty-found.ensures)
+loop-p-init c = lowest-none _ _ c.empty-found.ensures
 
 pub loop-p-preserved : goal.loop-p-preserved
-loop-p-preserved c = (search rules, lowest_more _ _ _ _ _ c.loop-p.invariant.1 c.load128.ensures c.with_lowest-found.ensures)
+loop-p-preserved c = lowest_more _ _ _ _ _ c.loop-p.invariant c.load.ensures c.with_lowest-found.ensures
 
 pub returns : goal.returns
 returns c = let e : c.loop-p.p ≡ c.args.m = omega arith in
-    rw e at c.loop-p.invariant.1
+    rw e at c.loop-p.invariant

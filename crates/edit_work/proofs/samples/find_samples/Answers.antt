@@ -3,36 +3,24 @@
 use borrow.Author.Rules.{rules}
 use Prim.Native.Nat.{◌^◌, ◌<◌}
 use native.Mathlib.Omega.{arith}
-use Rattle.sets_128.specs.Held.{set128}
+use Rattle.sets.specs.Held.{set_of}
 use Rattle.sets.proofs.Written.{words}
-use Rattle.sets_128.proofs.Held.{held128}
+use Rattle.sets.proofs.Held.{held128}
 use Rattle.edit_work.proofs.Sampling.{meeting_start, meeting_room, meeting_more, meeting_all}
 use Rattle.edit_work.proofs.samples.find_samples.Goals as goal
 use Rattle.edit_work.proofs.samples.find_samples.Goals.{After-difference-users}
 
-narrow : (c : After-difference-users) → set128 c.difference-users.result < 2 ^ 128
+narrow : (c : After-difference-users) → set_of c.difference-users.result < 2 ^ 128
 narrow c = search (words, held128)
 
 pub loop-k-init : goal.loop-k-init
-loop-k-init c = let small : set128 c.empty-met.result < 2 ^ 128 = search (words, held128) in meeting_start _ _ _ _ c.requires.2 c.empty-met.ensures small
-
-pub overflow_mul-k : goal.overflow_mul-k
-overflow_mul-k c = let l = c.loop-k.invariant.left in omega arith
-
-pub overflow_add-k : goal.overflow_add-k
-overflow_add-k c = let l = c.loop-k.invariant.left in omega arith
-
-pub load128-requires : goal.load128-requires
-load128-requires c = let l = c.loop-k.invariant.left in omega arith
+loop-k-init c = let small : set_of c.empty-met.result < 2 ^ 128 = search (words, held128) in meeting_start _ _ _ _ c.requires.2 c.empty-met.ensures small
 
 pub add_samples-count-requires : goal.add_samples-count-requires
-add_samples-count-requires c = (search rules, c.loop-k.invariant.size, meeting_room _ _ _ _ _ _ _ _ c.loop-k-test.true c.loop-k.invariant c.load128.ensures c.difference-users.ensures (narrow (goal.at.add_samples-count-requires c).After-difference-users))
+add_samples-count-requires c = (search rules, c.loop-k.invariant.size, meeting_room _ _ _ _ _ _ _ _ (omega arith) c.loop-k.invariant c.load.ensures c.difference-users.ensures (narrow (goal.at.add_samples-count-requires c).After-difference-users))
 
 pub loop-k-preserved : goal.loop-k-preserved
-loop-k-preserved c = meeting_more _ _ _ _ _ _ _ _ c.loop-k-test.true c.loop-k.invariant c.load128.ensures c.difference-users.ensures (narrow (goal.at.loop-k-preserved c).After-difference-users) _ _ _ (omega arith) (c.add_samples-count.ensures.upper_bound, c.add_samples-count.ensures.by_index) c.union-met.ensures
-
-pub shape_of-table : goal.shape_of-table
-shape_of-table c = let z = c.loop-k.invariant.size in omega arith
+loop-k-preserved c = meeting_more _ _ _ _ _ _ _ _ (omega arith) c.loop-k.invariant c.load.ensures c.difference-users.ensures (narrow (goal.at.loop-k-preserved c).After-difference-users) _ _ _ (omega arith) (c.add_samples-count.ensures.upper_bound, c.add_samples-count.ensures.by_index) c.union-met.ensures
 
 pub returns : goal.returns
 returns c =

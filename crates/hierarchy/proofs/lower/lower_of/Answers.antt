@@ -13,4 +13,4 @@ pub gather_within-requires-2 : goal.gather_within-requires-2
 gather_within-requires-2 c = (search rules, omega arith, λ q l. omega arith)
 
 pub returns : goal.returns
-returns c = rw (sym c.load256-s.ensures) (c.from_words.ensures ∙ gathered _ _ _ _ _ c.in_first_word-first.ensures c.gather_within.ensures c.gather_within-2.ensures)
+returns c = rw (sym c.load-s.ensures) (c.from_words.ensures ∙ gathered _ _ _ _ _ c.in_first_word-first.ensures c.gather_within.ensures c.gather_within-2.ensures)

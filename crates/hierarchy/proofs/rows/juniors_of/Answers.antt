@@ -12,5 +12,5 @@ returns-then-not-contains c = λ ρ n h b. c.empty.ensures ∙ sym (absent_junio
 
 pub returns : goal.returns
 returns c = λ ρ n h b.
-    juniors_found ρ _ _ _ _ _ _ n h b (stands _ _ _ c.contains.ensures (ap not c.if-not-contains.false)) c.load128.ensures
+    juniors_found ρ _ _ _ _ _ _ n h b (stands _ _ _ c.contains.ensures (ap not c.if-not-contains.false)) c.load.ensures
     c.intersection.ensures (c.maximal_of.ensures ρ n h)

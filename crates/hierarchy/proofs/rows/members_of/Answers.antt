@@ -12,5 +12,5 @@ returns-then-not-contains c = λ ρ n w h b e. c.empty.ensures ∙ sym (absent_m
 
 pub returns : goal.returns
 returns c = λ ρ n w h b e.
-    c.less128.ensures
-    ∙ members_found ρ _ _ _ _ _ n w h b (stands _ _ _ c.contains.ensures (ap not c.if-not-contains.false)) c.load128.ensures e
+    c.less.ensures
+    ∙ members_found ρ _ _ _ _ _ n w h b (stands _ _ _ c.contains.ensures (ap not c.if-not-contains.false)) c.load.ensures e

@@ -12,5 +12,5 @@ returns-then-not-contains c = λ ρ n w h b e. c.empty.ensures ∙ sym (absent_p
 
 pub returns : goal.returns
 returns c = λ ρ n w h b e.
-    c.less256.ensures
-    ∙ permissions_found ρ _ _ _ _ _ n w h b (stands _ _ _ c.contains.ensures (ap not c.if-not-contains.false)) c.load256.ensures e
+    c.less.ensures
+    ∙ permissions_found ρ _ _ _ _ _ n w h b (stands _ _ _ c.contains.ensures (ap not c.if-not-contains.false)) c.load.ensures e

@@ -2,9 +2,9 @@
 -- Assumes nothing.
 use mathlib.Core.Path.{sym, ◌∙◌}
 use Prim.Native.Nat.{◌^◌, ◌<◌}
-use Rattle.sets_128.specs.Held.{set128}
+use Rattle.sets.specs.Held.{set_of}
 use Rattle.sets.proofs.Written.{words}
-use Rattle.sets_128.proofs.Held.{held128}
+use Rattle.sets.proofs.Held.{held128}
 use Rattle.indexes.proofs.Owning.{own_learnt}
 use Rattle.indexes.proofs.own.learn.Goals as goal
 
@@ -13,7 +13,7 @@ returns-then-contains c = λ st crew at n cc i src le lu own h. (h, sym c.contai
 
 pub returns : goal.returns
 returns c = let given = c.requires in
-    let small : set128 c.lower_of.result < 2 ^ 128 = search (words, held128) in
+    let small : set_of c.lower_of.result < 2 ^ 128 = search (words, held128) in
     λ st crew at n cc i src le lu own h.
-    rw c.store128.ensures
+    rw c.store.ensures
     (own_learnt st crew at n _ cc src _ _ _ i _ _ _ _ _ h given.1 given.2 given.3 le lu own c.lower_of.ensures small c.insert.ensures c.insert-2.ensures)

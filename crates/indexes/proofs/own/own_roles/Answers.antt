@@ -4,7 +4,7 @@ use borrow.Author.Rules.{rules}
 use mathlib.Core.Path.{◌≡◌, sym, ◌∙◌, subst}
 use mathlib.Core.Logic.{◌⊎◌}
 use native.Mathlib.Omega.{arith}
-use Rattle.sets_256.specs.Held.{set256}
+use Rattle.sets.specs.Held.{set_of}
 use Rattle.sets.proofs.Truth.{equal_or}
 use Rattle.tables.specs.Search.{Finds}
 use Rattle.indexes.proofs.Sources.{own_none, own_missing, own_role, own_found}
@@ -15,27 +15,27 @@ pub returns-in_default : goal.returns-in_default
 returns-in_default c = let row = c.args.row in
     let l = subst (Finds _ _ _) c.in_default.is c.search.ensures in
     λ st crew at n src lu own h.
-    let z : set256 row ≡ 0 =
-    equal_or (set256 row) 0 (λ e. e) (λ d. absurd (own_missing st crew at n _ _ src _ _ lu own d c.in_default.field-0 l)) in
+    let z : set_of row ≡ 0 =
+    equal_or (set_of row) 0 (λ e. e) (λ d. absurd (own_missing st crew at n _ _ src _ _ lu own d c.in_default.field-0 l)) in
     (own_more st _ _ _ _ h (◌⊎◌.inl (sym own ∙ z)), c.empty-roles.ensures ∙ sym (own_none st crew at n _ _ src _ _ lu own z))
 
 pub learn-own-requires : goal.learn-own-requires
-learn-own-requires c = let l = subst (Finds _ _ _) c.in-At.is c.search.ensures in
+learn-own-requires c = let l = subst (Finds _ _ _) c.in-Ok.is c.search.ensures in
     (search rules, search rules, omega arith, search rules)
 
 pub overflow_mul-e : goal.overflow_mul-e
-overflow_mul-e c = let l = subst (Finds _ _ _) c.in-At.is c.search.ensures in
+overflow_mul-e c = let l = subst (Finds _ _ _) c.in-Ok.is c.search.ensures in
     omega arith
 
-pub load128-requires : goal.load128-requires
-load128-requires c = let l = subst (Finds _ _ _) c.in-At.is c.search.ensures in
+pub load-requires : goal.load-requires
+load-requires c = let l = subst (Finds _ _ _) c.in-Ok.is c.search.ensures in
     omega arith
 
 pub returns : goal.returns
-returns c = let l = subst (Finds _ _ _) c.in-At.is c.search.ensures in
+returns c = let l = subst (Finds _ _ _) c.in-Ok.is c.search.ensures in
     λ st crew at n src lu own h.
     let role = own_role st crew at n _ _ src _ _ lu own _ l.0 l.1 in
     let k = c.learn-own.ensures st crew at n _ _ src l.0 lu role h in (
       own_more st _ _ _ _ k.0 (◌⊎◌.inr (_, k.1, role)),
-      own_found st crew at n _ _ src _ _ lu own _ l.0 l.1 _ (k.0.entries _ k.1).1 _ _ c.load128.ensures c.insert-roles.ensures,
+      own_found st crew at n _ _ src _ _ lu own _ l.0 l.1 _ (k.0.entries _ k.1).1 _ _ c.load.ensures c.insert-roles.ensures,
     )

@@ -3,14 +3,18 @@
 use mathlib.Core.Path.{sym, ◌∙◌}
 use mathlib.Core.Logic.{◌⊎◌}
 use borrow.Author.Tests.{eqb-true}
+use Rattle.sets.proofs.Written.{words}
+use Rattle.sets.proofs.Held.{equal_sets}
 use Rattle.mining.proofs.Seeing.{known_empty, known_there}
 use Rattle.mining.proofs.seen.is_known.Goals as goal
+use Rattle.mining.proofs.seen.is_known.Goals.{then-eq, else-eq}
 
-pub returns-then-equals : goal.returns-then-equals
-returns-then-equals c = ◌⊎◌.inl (eqb-true _ _ (sym c.equals.ensures ∙ c.if-equals.true))
+pub returns-then-eq-2 : goal.returns-then-eq-2
+returns-then-eq-2 c = rw c.if-eq-2.true
+    (elim c.if-eq.branch [
+      | then-eq w ↦ ◌⊎◌.inl (eqb-true _ _ (sym (c.eq.ensures ∙ equal_sets c.args.y c.args.x (search words) (search words)) ∙ w.if-eq.true))
+      | else-eq w ↦ known_there _ _ _ _ _ w.slot_of.ensures w.load.ensures (sym (w.eq-else-eq.ensures ∙ equal_sets c.args.y w.load.result (search words) (search words)) ∙ sym w.value-is ∙ c.if-eq-2.true)
+    ])
 
-pub returns-then-equals-2 : goal.returns-then-equals-2
-returns-then-equals-2 c = known_there _ _ _ _ _ c.slot_of.ensures c.load256.ensures (sym c.equals-2.ensures ∙ c.if-equals-2.true)
-
-pub returns : goal.returns
-returns c = known_empty _ _ _ _ c.is_empty.ensures
+pub returns-else-eq-2 : goal.returns-else-eq-2
+returns-else-eq-2 c = known_empty _ _ _ _ c.is_empty.ensures

@@ -1,17 +1,23 @@
--- A way for each kind.
+-- Each call keeps its own promise.
 -- Assumes nothing.
-use mathlib.Core.Path.{refl}
-use Rattle.panel.proofs.Serving.{served_strike, served_restore, served_eliminate, served_review}
+use Rattle.std.proofs.lemmas.Result.{err_from_is_err_and}
+use Rattle.quality.specs.Numbers.{weights_in, weights_of, tolerance_in, tolerance_of}
 use Rattle.panel.proofs.list.serve_call.Goals as goal
 
-pub returns-then-kind-eq0 : goal.returns-then-kind-eq0
-returns-then-kind-eq0 c = served_strike _ _ _ _ _ _ (refl, refl, refl) c.panel_strike-a.ensures.rec_after c.if-kind-eq0.true
+pub returns-in_err-done-in-Eliminate : goal.returns-in_err-done-in-Eliminate
+unfolding weights_in weights_of tolerance_in tolerance_of
+returns-in_err-done-in-Eliminate c = let p = err_from_is_err_and c.from_residual-in_err-done-in-Eliminate.result c.from_residual-in_err-done-in-Eliminate.ensures.1 in
+    rw (p.1, p.2, c.in-Eliminate.is) c.in_err-done-in-Eliminate.ensures.rec_after
 
-pub returns-then-kind-eq1 : goal.returns-then-kind-eq1
-returns-then-kind-eq1 c = served_restore _ _ _ _ _ _ (refl, refl, refl) c.panel_restore-a.ensures.rec_after c.if-kind-eq0.false c.if-kind-eq1.true
+pub returns-in_ok-done-in-Eliminate : goal.returns-in_ok-done-in-Eliminate
+unfolding weights_in weights_of tolerance_in tolerance_of
+returns-in_ok-done-in-Eliminate c = rw c.in-Eliminate.is c.in_ok-done-in-Eliminate.ensures.rec_after
 
-pub returns-then-kind-eq2 : goal.returns-then-kind-eq2
-returns-then-kind-eq2 c = served_eliminate _ _ _ _ _ _ (refl, refl, refl) c.panel_eliminate-a.ensures.rec_after c.if-kind-eq0.false c.if-kind-eq1.false c.if-kind-eq2.true
+pub returns-in_err-done-in-Review : goal.returns-in_err-done-in-Review
+unfolding weights_in weights_of
+returns-in_err-done-in-Review c = let p = err_from_is_err_and c.from_residual-in_err-done-in-Review.result c.from_residual-in_err-done-in-Review.ensures.1 in
+    rw (p.1, p.2, c.in-Review.is) c.in_err-done-in-Review.ensures.rec_after
 
-pub returns : goal.returns
-returns c = served_review _ _ _ _ _ _ (refl, refl, refl) c.panel_review-a.ensures.rec_after c.if-kind-eq0.false c.if-kind-eq1.false c.if-kind-eq2.false
+pub returns-in_ok-done-in-Review : goal.returns-in_ok-done-in-Review
+unfolding weights_in weights_of
+returns-in_ok-done-in-Review c = rw c.in-Review.is c.in_ok-done-in-Review.ensures.rec_after

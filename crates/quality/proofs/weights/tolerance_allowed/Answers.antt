@@ -1,17 +1,13 @@
--- Each test by itself, and the last.
+-- The four tests, one after the other.
 -- Assumes nothing.
+use borrow.Author.Rules.{rules}
+use mathlib.Core.Path.{◌∙◌}
 use native.Mathlib.Omega.{arith}
 use Rattle.quality.proofs.Limits.{tolerance_not, tolerance_last}
 use Rattle.quality.proofs.weights.tolerance_allowed.Goals as goal
 
-pub returns-then-b-lt1 : goal.returns-then-b-lt1
-returns-then-b-lt1 c = tolerance_not _ (λ f. let x = f.0 in let z : ⊥ = omega arith in z)
+pub returns-then-b-a : goal.returns-then-b-a
+returns-then-b-a c = let t = c.if-b-a.true in tolerance_last _ t.0 t.1 t.2
 
-pub returns-then-b-gt1000 : goal.returns-then-b-gt1000
-returns-then-b-gt1000 c = tolerance_not _ (λ f. let x = f.1 in let z : ⊥ = omega arith in z)
-
-pub returns-then-a-b : goal.returns-then-a-b
-returns-then-a-b c = tolerance_not _ (λ f. let x = f.2 in let z : ⊥ = omega arith in z)
-
-pub returns : goal.returns
-returns c = tolerance_last _ (omega arith) (omega arith) (omega arith)
+pub returns-else-b-a : goal.returns-else-b-a
+returns-else-b-a c = search rules ∙ tolerance_not _ (λ f. grind (arith, c.if-b-a.either))

@@ -24,9 +24,9 @@ limited-at c = sym c.within.ensures ∙ c.if-not-within.false
 
 limits-at : (c : Else-not-is_subset) → Limits (state_of c.args.rec.now)
 limits-at c =
-    let w = subst (Mines _ _) c.in-Count.is c.mine.ensures in
+    let w = subst (Mines _ _) c.in-Some.is c.mine.ensures in
     limits _ c.requires.rec_len (limited-at (goal.at.Else-not-is_subset c).Else-not-within) _ w.holds.count w.holds.frame.few
-    _ _ _ c.load128.ensures c.below.ensures c.is_subset.ensures (ap not c.if-not-is_subset.false)
+    _ _ _ c.load.ensures c.below.ensures c.is_subset.ensures (ap not c.if-not-is_subset.false)
 
 pub returns-then-not-within : goal.returns-then-not-within
 returns-then-not-within c = let no = unlimited _ c.requires.rec_len _ c.within.ensures (ap not c.if-not-within.true) in
@@ -44,15 +44,15 @@ returns-in_default c = let no = too_many _ c.requires.rec_len (subst (Mines _ _)
     record { value = no; ready = λ s. absurd (So-not (sym no) s) }
 
 pub returns-then-not-is_subset : goal.returns-then-not-is_subset
-returns-then-not-is_subset c = let w = subst (Mines _ _) c.in-Count.is c.mine.ensures in
+returns-then-not-is_subset c = let w = subst (Mines _ _) c.in-Some.is c.mine.ensures in
     let no = too_high _ c.requires.rec_len (limited-at (goal.at.returns-then-not-is_subset c).Else-not-within) _ w.holds.count w.holds.frame.few
-    _ _ _ c.load128.ensures c.below.ensures c.is_subset.ensures (ap not c.if-not-is_subset.true) in
+    _ _ _ c.load.ensures c.below.ensures c.is_subset.ensures (ap not c.if-not-is_subset.true) in
     record { value = no; ready = λ s. absurd (So-not (sym no) s) }
 
 pub is_headed-requires : goal.is_headed-requires
 unfolding state_of
 is_headed-requires c = let full = c.requires.rec_len in
-    record { rec_len = full; rec_bound = limited_users c.args.rec.now full (limited-at (goal.at.is_headed-requires c).Else-not-within); written = subst (Mines _ _) c.in-Count.is c.mine.ensures }
+    record { rec_len = full; rec_bound = limited_users c.args.rec.now full (limited-at (goal.at.is_headed-requires c).Else-not-within); written = subst (Mines _ _) c.in-Some.is c.mine.ensures }
 
 pub returns-then-not-is_headed : goal.returns-then-not-is_headed
 returns-then-not-is_headed c = let no = unheaded _ c.requires.rec_len _ c.is_headed.ensures (ap not c.if-not-is_headed.true) in

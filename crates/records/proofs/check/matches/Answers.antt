@@ -1,7 +1,7 @@
 -- The index, then coverage, then the rows.
 -- Assumes nothing.
 use borrow.Author.Rules.{rules}
-use mathlib.Core.Path.{◌≡◌, sym}
+use mathlib.Core.Path.{◌≡◌, sym, ◌∙◌}
 use mathlib.Core.List.{List}
 use Prim.Native.Nat.{ℕ}
 use Rattle.sets.proofs.Truth.{So-not}
@@ -37,17 +37,17 @@ pub all_covered-requires : goal.all_covered-requires
 all_covered-requires c = let given = c.requires in
     record { rec_len = given.rec_len; rec_bound = few_users _ given.rec_len given.limits; index_len = search rules }
 
-pub returns-then-not-all_covered : goal.returns-then-not-all_covered
-returns-then-not-all_covered c = let given = c.requires in
-    let no = uncovered _ given.rec_len given.limits _ (covered-at (goal.at.returns-then-not-all_covered c).After-all_covered) (ap not c.if-not-all_covered.true) in
-    record { value = no; ready = λ s. absurd (So-not (sym no) s) }
+pub returns-else-all_covered : goal.returns-else-all_covered
+returns-else-all_covered c = let given = c.requires in
+    let no = uncovered _ given.rec_len given.limits _ (covered-at (goal.at.returns-else-all_covered c).After-all_covered) (ap not c.if-all_covered.false) in
+    record { value = c.if-all_covered.false ∙ no; ready = λ s. absurd (So-not (sym no) s) }
 
 pub rows_match-requires : goal.rows_match-requires
 rows_match-requires c = let given = c.requires in
     record { rec_len = given.rec_len; index_len = search rules; seniors_len = search rules; by_index = given.by_index; rec_bound = (headed_fills _ given.limits _ given.headed).few_candidates }
 
-pub returns : goal.returns
-returns c = let given = c.requires in
-    let told = c.rows_match.ensures _ given.limits given.headed (indexed-at (goal.at.returns c).After-fill_index) in
-    let left = (ap not c.if-not-all_covered.false) in
-    record { value = compared _ given.rec_len given.limits _ _ (covered-at (goal.at.returns c).After-all_covered) left told.0; ready = ready _ given.rec_len given.limits _ _ (covered-at (goal.at.returns c).After-all_covered) left told.0 _ _ (indexed-at (goal.at.returns c).After-fill_index) told.1 }
+pub returns-then-all_covered : goal.returns-then-all_covered
+returns-then-all_covered c = let given = c.requires in
+    let told = c.rows_match.ensures _ given.limits given.headed (indexed-at (goal.at.returns-then-all_covered c).After-fill_index) in
+    let left = (ap not c.if-all_covered.true) in
+    record { value = compared _ given.rec_len given.limits _ _ (covered-at (goal.at.returns-then-all_covered c).After-all_covered) left told.0; ready = ready _ given.rec_len given.limits _ _ (covered-at (goal.at.returns-then-all_covered c).After-all_covered) left told.0 _ _ (indexed-at (goal.at.returns-then-all_covered c).After-fill_index) told.1 }

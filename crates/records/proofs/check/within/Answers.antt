@@ -8,14 +8,14 @@ use Rattle.records.proofs.check.within.Goals as goal
 use Rattle.std.proofs.Common.{ap}
 use mathlib.Core.Bool.{not}
 
-pub returns-then-not-limits_kept : goal.returns-then-not-limits_kept
-returns-then-not-limits_kept c = first_fails _ _ _ c.limits_kept.ensures (ap not c.if-not-limits_kept.true)
-
 pub rows_within-requires : goal.rows_within-requires
-rows_within-requires c = let k = (within_limits_iff _ _).0 (sym c.limits_kept.ensures ∙ c.if-not-limits_kept.false) in
+rows_within-requires c = let k = (within_limits_iff _ _).0 (sym c.limits_kept.ensures ∙ c.if-limits_kept.true) in
     let a = k.1 in
     let b = k.3 in
     record { n_in_bounds = omega arith; m_bound = omega arith }
 
-pub returns : goal.returns
-returns c = first_holds _ _ _ _ c.limits_kept.ensures (ap not c.if-not-limits_kept.false) c.rows_within.ensures
+pub returns-then-limits_kept : goal.returns-then-limits_kept
+returns-then-limits_kept c = first_holds _ _ _ _ c.limits_kept.ensures (ap not c.if-limits_kept.true) c.rows_within.ensures
+
+pub returns-else-limits_kept : goal.returns-else-limits_kept
+returns-else-limits_kept c = c.if-limits_kept.false ∙ first_fails _ _ _ c.limits_kept.ensures (ap not c.if-limits_kept.false)

@@ -3,22 +3,35 @@
 use mathlib.Core.Path.{sym, ◌∙◌}
 use Prim.Native.Nat.{ℕ, ◌^◌, ◌<◌}
 use lib.ListN.{get_or}
-use Rattle.sets.proofs.Telling.{no_of, failed, passed}
+use Rattle.sets.proofs.Truth.{So-not, eqb_iff}
+use Rattle.sets.proofs.Telling.{failed, passed}
+use Rattle.model.specs.Record.{state_of}
+use Rattle.rows.specs.Partway.{Headed}
 use Rattle.records.proofs.Heading.{headed_of, headed_count, headed_unused, headed_table}
 use Rattle.records.proofs.head.is_headed.Goals as goal
+use Rattle.records.proofs.head.is_headed.Goals.{then-rec-c, else-rec-c}
 use Rattle.std.proofs.Common.{ap}
 use mathlib.Core.Bool.{not}
 
-pub returns-then-rec-c : goal.returns-then-rec-c
-returns-then-rec-c c = no_of (λ h. c.if-rec-c.true (headed_count _ _ _ (λ i. (c.type_inv.rec i).fits) c.requires.rec_len c.requires.rec_bound c.requires.written h))
+pub returns-then-unused_zero : goal.returns-then-unused_zero
+returns-then-unused_zero c =
+    let fits : (i : ℕ) → get_or c.args.rec.now i 0 < 2 ^ 64 = λ i. (c.type_inv.rec i).fits in
+    let given = c.requires in (
+      λ t. elim c.if-rec-c.branch [
+        | then-rec-c w ↦
+            headed_of _ _ _ fits given.rec_len given.rec_bound given.written w.if-rec-c.true
+            (passed _ w.unused_zero.ensures (ap not (sym w.value-is ∙ c.if-unused_zero.true))) (sym c.equal_at.ensures ∙ t)
+        | else-rec-c w ↦ absurd (w.if-rec-c.false ((eqb_iff _ _).0 (sym w.value-is ∙ c.if-unused_zero.true)))
+      ],
+      λ h. c.equal_at.ensures ∙ headed_table _ _ _ fits given.rec_len given.rec_bound given.written h,
+    )
 
-pub returns-then-not-unused_zero : goal.returns-then-not-unused_zero
-returns-then-not-unused_zero c = no_of (λ h. failed _ c.unused_zero.ensures (ap not c.if-not-unused_zero.true) (headed_unused _ _ _ (λ i. (c.type_inv.rec i).fits) c.requires.rec_len c.requires.rec_bound c.requires.written h))
-
-pub returns : goal.returns
-returns c = let fits : (i : ℕ) → get_or c.args.rec.now i 0 < 2 ^ 64 = λ i. (c.type_inv.rec i).fits in (
-  λ t.
-      headed_of _ _ _ fits c.requires.rec_len c.requires.rec_bound c.requires.written c.if-rec-c.false
-      (passed _ c.unused_zero.ensures (ap not c.if-not-unused_zero.false)) (sym c.equal_at.ensures ∙ t),
-  λ h. c.equal_at.ensures ∙ headed_table _ _ _ fits c.requires.rec_len c.requires.rec_bound c.requires.written h,
-)
+pub returns-else-unused_zero : goal.returns-else-unused_zero
+returns-else-unused_zero c =
+    let fits : (i : ℕ) → get_or c.args.rec.now i 0 < 2 ^ 64 = λ i. (c.type_inv.rec i).fits in
+    let given = c.requires in
+    let no : Headed (state_of c.args.rec.now) c.args.rec.now → ⊥ = λ h. elim c.if-rec-c.branch [
+      | then-rec-c w ↦ failed _ w.unused_zero.ensures (ap not (sym w.value-is ∙ c.if-unused_zero.false)) (headed_unused _ _ _ fits given.rec_len given.rec_bound given.written h)
+      | else-rec-c w ↦ w.if-rec-c.false (headed_count _ _ _ fits given.rec_len given.rec_bound given.written h)
+    ] in
+    (λ t. absurd (So-not c.if-unused_zero.false t), λ h. absurd (no h))

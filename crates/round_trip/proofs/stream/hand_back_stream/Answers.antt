@@ -1,14 +1,9 @@
--- What is written is the part of the output that is filled.
+-- What comes back of the bytes read is what comes back of the text.
 -- Assumes nothing.
-use Rattle.streams.proofs.Texts.{of_what_was_written}
+use Rattle.std.proofs.Common.{rules, arith, ◌∙◌}
 use Rattle.round_trip.specs.HandBack.{handed_back}
+use Rattle.round_trip.proofs.Handing.{cut_back}
 use Rattle.round_trip.proofs.stream.hand_back_stream.Goals as goal
 
 pub returns : goal.returns
-returns g c =
-    let read = c.in_ok-n.ensures in
-    let put = c.hand_read-end.ensures in
-    of_what_was_written c.write_all.result _ _ _ _ _ _ c.hand_read-end.new.out c.in_ok-n.n c.hand_read-end.result handed_back
-    read.bound put.upper_bound read.bytes read.end
-    (λ text e. let p = put.by_index text e in (p.size, p.bytes))
-    c.write_all.ensures.bytes
+returns g c = c.through.ensures handed_back (λ text input answer e post. search rules ∙ cut_back 16385 text _ e (omega arith))

@@ -2,9 +2,8 @@
 -- Assumes nothing.
 use mathlib.Core.Path.{◌≡◌}
 use Prim.Native.Nat.{ℕ}
-use lib.Count.{ones}
 use lib.ListN.{length}
-use Rattle.sets_128.specs.Held.{set128}
+use Rattle.sets.specs.Held.{set_of}
 use Rattle.model.specs.Hierarchy.{RoleRows}
 use Rattle.model.specs.Record.{record_length}
 use Rattle.model.specs.State.{State}
@@ -12,9 +11,6 @@ use Rattle.rows.specs.Linked.{Linked}
 use Rattle.rows.specs.Partway.{Partway, Target}
 use Rattle.rows.proofs.link.relink_uppers.Given as goal
 
-abbrev pub invariant-loop-standing : goal.invariant-loop-standing
-invariant-loop-standing l = (length l.rec ≡ record_length) × (length l.seniors ≡ 256)
-    × ((old : RoleRows) (st : State) (t : ℕ) → Target st (set128 l.standing) l.index → Partway old st (set128 l.initial.rest) (set128 l.initial.rest) t l.initial.rec → Linked l.initial.rec l.initial.seniors → Partway old st (set128 l.rest) (set128 l.rest) t l.rec × Linked l.rec l.seniors)
-
-abbrev pub decreases-loop-standing : goal.decreases-loop-standing
-decreases-loop-standing l = ones (set128 l.rest)
+abbrev pub invariant-loop-i : goal.invariant-loop-i
+invariant-loop-i l = (length l.rec ≡ record_length) × (length l.seniors ≡ 256)
+    × ((old : RoleRows) (st : State) (t : ℕ) → Target st (set_of l.standing) l.index → Partway old st (set_of l.initial.i-iterator.rest) (set_of l.initial.i-iterator.rest) t l.initial.rec → Linked l.initial.rec l.initial.seniors → Partway old st (set_of l.i-iterator.rest) (set_of l.i-iterator.rest) t l.rec × Linked l.rec l.seniors)

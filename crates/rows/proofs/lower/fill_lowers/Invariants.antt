@@ -1,9 +1,9 @@
 -- The roles from number j on still have their old members.
 -- Assumes nothing.
 use mathlib.Core.Path.{◌≡◌}
-use Prim.Native.Nat.{ℕ, ◌-◌, ◌≤◌}
+use Prim.Native.Nat.{ℕ}
 use lib.ListN.{length}
-use Rattle.sets_128.specs.Held.{set128}
+use Rattle.sets.specs.Held.{set_of}
 use Rattle.model.specs.Hierarchy.{RoleRows}
 use Rattle.model.specs.Record.{record_length}
 use Rattle.model.specs.State.{State}
@@ -13,8 +13,5 @@ use Rattle.rows.proofs.Rewriting.{from}
 use Rattle.rows.proofs.lower.fill_lowers.Given as goal
 
 abbrev pub invariant-loop-j : goal.invariant-loop-j
-invariant-loop-j l = (l.j ≤ l.c) × (length l.rec ≡ record_length)
-    × ((old : RoleRows) (st : State) (p : ℕ) → Target st (set128 l.standing) l.index → Linked l.initial.rec l.seniors → Partway old st 0 p (set128 l.standing) l.initial.rec → Partway old st 0 p (from (set128 l.standing) l.j) l.rec × Linked l.rec l.seniors)
-
-abbrev pub decreases-loop-j : goal.decreases-loop-j
-decreases-loop-j l = l.c - l.j
+invariant-loop-j l = (length l.rec ≡ record_length)
+    × ((old : RoleRows) (st : State) (p : ℕ) → Target st (set_of l.standing) l.index → Linked l.initial.rec l.seniors → Partway old st 0 p (set_of l.standing) l.initial.rec → Partway old st 0 p (from (set_of l.standing) l.j) l.rec × Linked l.rec l.seniors)

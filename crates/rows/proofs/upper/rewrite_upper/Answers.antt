@@ -5,4 +5,4 @@ use Rattle.rows.proofs.upper.rewrite_upper.Goals as goal
 
 pub returns : goal.returns
 returns c = λ old st s p t to q. upper_rewritten old st p t _ _ _ to s _ _ _ _ _ c.requires.i_bound c.juniors_of-juniors.ensures c.permissions_of-permissions.ensures
-    c.store128.ensures c.store256.ensures q
+    c.store.ensures c.store-2.ensures q

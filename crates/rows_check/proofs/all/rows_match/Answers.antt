@@ -17,7 +17,7 @@ returns-then-not-none_behind c = λ st lim h ix. (no_of (λ e. failed _ c.none_b
 
 pub returns-then-not-uppers_match : goal.returns-then-not-uppers_match
 returns-then-not-uppers_match c = λ st lim h ix.
-    let to = standing_told st _ h lim _ _ c.load128-standing.ensures ix in
+    let to = standing_told st _ h lim _ _ c.load-standing.ensures ix in
     (no_of (λ e. failed _ (c.uppers_match.ensures st to h) (ap not c.if-not-uppers_match.true) (λ k l. built_upper st lim _ e k (rw (count_told st _ h) l))), λ t. absurd ((no_of (λ x. x)).0 t))
 
 pub returns : goal.returns
@@ -25,7 +25,7 @@ returns c = λ st lim h ix.
     let ws = c.args.rec.now in
     let fits : (i : ℕ) → get_or ws i 0 < 2 ^ 64 = λ i. (c.type_inv.rec i).fits in
     let count = count_told st ws h in
-    let to = standing_told st ws h lim _ _ c.load128-standing.ensures ix in
+    let to = standing_told st ws h lim _ _ c.load-standing.ensures ix in
     let none : NoneBehind ws (candidate_count (roles_of st)) = rw count (passed _ c.none_behind.ensures (ap not c.if-not-none_behind.false)) in
     let held : (k : ℕ) → k < candidate_count (roles_of st) → UpperHeld st ws k = λ k l. passed _ (c.uppers_match.ensures st to h) (ap not c.if-not-uppers_match.false) k (rw count at l) in
     let linked = seniors_linked st lim ws fits none held _ _ _ c.args.seniors.now _ to count c.requires.by_index c.fill_columns.ensures (omega (arith, c.requires.seniors_len, c.fill_columns.auto)) in

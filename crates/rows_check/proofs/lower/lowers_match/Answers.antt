@@ -1,22 +1,12 @@
--- The roles before j have their entries.
+-- Each role is asked, by `told_by_all`.
 -- Assumes nothing.
 use borrow.Author.Rules.{rules}
-use native.Mathlib.Nat.{not-suc-le-zero}
+use mathlib.Core.Path.{refl}
 use native.Mathlib.Omega.{arith}
+use Rattle.std.proofs.lemmas.Iterator.{YieldsList-from_range}
+use Rattle.tables.proofs.Asking.{told_by_all}
 use Rattle.rows_check.specs.Held.{LowerHeld}
-use Rattle.sets.proofs.Telling.{no_of, yes_of, failed, passed, one_more}
 use Rattle.rows_check.proofs.lower.lowers_match.Goals as goal
-use Rattle.std.proofs.Common.{ap}
-use mathlib.Core.Bool.{not}
-
-pub loop-j-init : goal.loop-j-init
-loop-j-init c = (search rules, λ st to l h i no. absurd (not-suc-le-zero no))
-
-pub returns-then-not-lower_matches : goal.returns-then-not-lower_matches
-returns-then-not-lower_matches c = λ st to l h. no_of (λ f. failed _ (c.lower_matches.ensures st to l h) (ap not c.if-not-lower_matches.true) (f _ c.loop-j-test.true))
-
-pub loop-j-preserved : goal.loop-j-preserved
-loop-j-preserved c = (search rules, λ st to l h. one_more (LowerHeld st _) _ (c.loop-j.invariant.1 st to l h) (passed _ (c.lower_matches.ensures st to l h) (ap not c.if-not-lower_matches.false)))
 
 pub returns : goal.returns
-returns c = λ st to l h. yes_of (λ i li. c.loop-j.invariant.1 st to l h i (omega arith))
+returns c = λ st to l h. told_by_all c.args.c (LowerHeld st c.args.rec.now) _ _ _ c.all.ensures.ran (YieldsList-from_range 0 _ _ refl (omega arith)) (λ x t q k. (search rules, λ b. search rules))

@@ -5,6 +5,3 @@ use Rattle.tables.proofs.growing.insert.Given as goal
 
 abbrev pub invariant-loop-i : goal.invariant-loop-i
 invariant-loop-i l = Moved l.initial.table l.n l.at l.table l.i
-
-abbrev pub decreases-loop-i : goal.decreases-loop-i
-decreases-loop-i l = l.i

@@ -6,10 +6,10 @@ use Rattle.test_support.proofs.Digesting.{all_left, one_less, none_left}
 use Rattle.test_support.proofs.mixing.digest.Goals as goal
 
 pub loop-i-init : goal.loop-i-init
-loop-i-init c = (omega arith, all_left _)
+loop-i-init c = all_left _
 
 pub loop-i-preserved : goal.loop-i-preserved
-loop-i-preserved c = (omega arith, cc (one_less c.loop-i.d c.args.ws.now c.loop-i.i (omega arith)))
+loop-i-preserved c = cc (one_less c.loop-i.d c.args.ws.now c.loop-i.i (omega arith))
 
 pub returns : goal.returns
-returns c = sym (none_left c.loop-i.d c.args.ws.now c.loop-i.i (omega arith)) ∙ c.loop-i.invariant.1
+returns c = sym (none_left c.loop-i.d c.args.ws.now c.loop-i.i (omega arith)) ∙ c.loop-i.invariant

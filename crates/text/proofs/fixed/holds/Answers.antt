@@ -1,25 +1,13 @@
--- All bytes before place i agree.
+-- From the place on, the text starts with the bytes.
 -- Assumes nothing.
-use Rattle.text.proofs.Bytes.{holds_short, holds_differs, holds_through}
-use Rattle.sets.proofs.Truth.{all_none, all_more, eqb_iff}
-use mathlib.Core.Path.{sym}
+use mathlib.Core.Path.{sym, ◌∙◌}
 use native.Mathlib.Omega.{arith}
+use Rattle.sets.proofs.Truth.{not-So, leb_iff}
+use Rattle.text.proofs.Bytes.{holds_short, holds_starts}
 use Rattle.text.proofs.fixed.holds.Goals as goal
 
-pub returns-then-text-bytes : goal.returns-then-text-bytes
-returns-then-text-bytes c = sym (holds_short _ _ _ (omega arith))
+pub returns-then-at-text : goal.returns-then-at-text
+returns-then-at-text c = holds_starts _ _ _ _ c.if-at-text.true c.starts_with.ensures.bound c.starts_with.ensures.value
 
-pub returns-then-text-bytes-2 : goal.returns-then-text-bytes-2
-returns-then-text-bytes-2 c = sym (holds_short _ _ _ (omega arith))
-
-pub loop-i-init : goal.loop-i-init
-loop-i-init c = (omega arith, omega arith, all_none _)
-
-pub returns-then-text-at : goal.returns-then-text-at
-returns-then-text-at c = sym (holds_differs _ _ _ _ c.loop-i-test.true c.if-text-at.true)
-
-pub loop-i-preserved : goal.loop-i-preserved
-loop-i-preserved c = (omega arith, omega arith, all_more _ _ c.loop-i.invariant.2 ((eqb_iff _ _).1 c.if-text-at.false))
-
-pub returns : goal.returns
-returns c = sym (holds_through _ _ _ _ c.loop-i.invariant.1 c.loop-i-test.false c.loop-i.invariant.2)
+pub returns-else-at-text : goal.returns-else-at-text
+returns-else-at-text c = not-So _ (λ s. let k = (leb_iff _ _).0 s in omega arith) ∙ sym (holds_short _ _ _ (omega arith))

@@ -1,17 +1,7 @@
 -- The refusal's parts, one after another.
 -- Assumes nothing.
-use native.Mathlib.Omega.{arith}
 use Rattle.text_roles.proofs.Puts.{refused_put}
 use Rattle.text_roles.proofs.head.put_refusal.Goals as goal
-
-pub put_bytes-number-requires : goal.put_bytes-number-requires
-put_bytes-number-requires c = omega arith
-
-pub put_number-end-requires : goal.put_number-end-requires
-put_number-end-requires c = omega arith
-
-pub put_bytes-requires : goal.put_bytes-requires
-put_bytes-requires c = omega arith
 
 pub returns : goal.returns
 returns c = let k = c.put_number-end.ensures in

@@ -1,6 +1,5 @@
 -- The lines of the users below u are written.
 -- Assumes nothing.
-use mathlib.Core.Path.{refl}
 use Prim.Native.Nat.{suc}
 use native.Mathlib.Omega.{arith}
 use Rattle.model.specs.Lists.{rows_at}
@@ -10,7 +9,7 @@ use Rattle.text_write.proofs.Puts.{rows_none, rows_more, rows_put}
 use Rattle.text_write.proofs.rows.put_rows.Goals as goal
 
 pub loop-u-init : goal.loop-u-init
-loop-u-init c = (omega arith, refl, rows_none _ _ _ _)
+loop-u-init c = rows_none _ _ _ _
 
 pub put_row-at-requires : goal.put_row-at-requires
 put_row-at-requires c = let a = c.args in
@@ -19,9 +18,9 @@ put_row-at-requires c = let a = c.args in
     record { rec_len = omega arith; u_bound = omega arith; m_bound = omega arith; m_in_bounds = omega (arith, length-rows_more a.m rows u, length-rows_fewer a.m rows (suc u) a.n (omega arith)) }
 
 pub loop-u-preserved : goal.loop-u-preserved
-loop-u-preserved c = (omega arith, omega arith, rows_more _ _ _ _ _ _ _ _ _ _ (omega arith) c.loop-u.invariant.2 (c.put_row-at.ensures.value, c.put_row-at.ensures.out_after))
+loop-u-preserved c = rows_more _ _ _ _ _ _ _ _ _ _ (omega arith) c.loop-u.invariant (c.put_row-at.ensures.value, c.put_row-at.ensures.out_after)
 
 pub returns : goal.returns
 returns c =
-    let made = rows_put _ _ _ _ _ _ _ _ (omega arith) c.loop-u.invariant.2 in
+    let made = rows_put _ _ _ _ _ _ _ _ (omega arith) c.loop-u.invariant in
     record { value = made.0; out_after = made.1 }

@@ -1,0 +1,7 @@
+-- What comes back is what stands first in the output.
+-- Assumes nothing.
+use Rattle.streams.proofs.Texts.{first_stored}
+use Rattle.round_trip.proofs.stream.fn.hand_back_stream.through.Goals as goal
+
+pub returns : goal.returns
+returns c = let l = c.hand_back-end.ensures in first_stored _ _ _ _ l.2 (l.0, l.1)
