@@ -30,9 +30,9 @@ PATTERNS = [
     ("4 as", r" as (?:u8|u64|usize)\b"),
     # 5
     ("5 clause in three or more functions", None),
-    ("5 record and index side by side", r"rec: &(?:mut )?\[u64\](?:, |,\n\s+)index: &"),
+    ("5 record and index side by side", r"rec: &(?:mut )?(?:\[u64\]|Record)(?:, |,\n\s+)index: &"),
     # 6
-    ("6 table and how many", r"(?:table|crew|holders|ws|work): &(?:mut )?\[u64\], (?:at: usize, )?(?:n|c|m|count): usize"),
+    ("6 table and how many", r"(?:table|crew|holders|ws|work): &(?:mut )?(?:\[u64\]|Record|Table128|Holders|Work), (?:at: usize, )?(?:n|c|m|count): usize"),
     ("6 array", r"= \[0u?\d*; "),
     # 7
     ("7 choice of a step", r"if kind == |match name \{|match read_call"),

@@ -8,16 +8,15 @@ ghost use Rattle.model.specs.Lists.{set_at};
 ghost use Rattle.model.specs.Hierarchy.{candidate_count};
 ghost use Rattle.model.specs.Chains as model;
 ghost use Rattle.model.specs.State.{roles_of};
-ghost use Rattle.model.specs.Record.{record_length, state_of, sound, role_rows_of};
+ghost use Rattle.model.specs.Record.{state_of, sound, role_rows_of};
 ghost use Rattle.tables.specs.Tables.{table256_length};
 
 use crate::reach::reached_from;
 use columns::column;
 use sets::Set128;
-use tables::{JUNIORS, LENGTH, MEMBERS, PERMISSIONS, load};
+use tables::{JUNIORS, LENGTH, MEMBERS, PERMISSIONS, Record, load};
 
-pub fn may(rec: &[u64], u: usize, p: usize) -> bool
-    requires rec_len { length rec.now ≡ record_length }
+pub fn may(rec: &Record, u: usize, p: usize) -> bool
     requires rec_bound { get_or rec.now 2 0 ≤ 128 }
     ensures { So (sound rec.now) → result ≡ model.may (candidate_count (roles_of (state_of rec.now))) (role_rows_of rec.now) u p }
 {

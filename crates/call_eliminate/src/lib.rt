@@ -1,22 +1,23 @@
 #![tactic(auto)]
 
-ghost use Rattle.std.specs.Prelude.{◌≡◌};
+ghost use Rattle.std.specs.Prelude.{◌≡◌, IfOk};
 ghost use Rattle.model.specs.Calls.{edit};
 ghost use Rattle.model.specs.Machine.{refusal};
 ghost use Rattle.model.specs.Machine.Call.{eliminate};
 ghost use Rattle.model.specs.Refusals.{tolerance_refusal};
 ghost use Rattle.model.specs.State.{State};
-ghost use Rattle.quality.specs.Numbers.{weights_in, tolerance_in, weights_of, tolerance_of};
+ghost use Rattle.quality.specs.Given.{weights_of, tolerance_of};
+ghost use Rattle.quality.specs.Numbers.{weights_in, tolerance_in};
 ghost use Rattle.refusals.specs.Numbers.{code_of};
 ghost use Rattle.call_eliminate.specs.Results.{eliminate_result};
 
-use calls::{enter, weights_refusal};
+use calls::{allowed_weights, enter};
 use edit_eliminate::eliminate_all;
 use edit_turn::Terms;
-use edit_work::{DOWN, SENIORS, WORK_LENGTH};
-use indexes::INDEX_LENGTH;
-use quality::{Tolerance, Weights, count_rows, tolerance_allowed};
+use indexes::Index;
+use quality::{Tolerance, count_rows};
 use refusals::Refusal;
+use tables::Record;
 
 // How many roles an elimination struck, and how many it examined.
 #[derive(Clone, Copy)]
@@ -25,22 +26,23 @@ pub struct Eliminated {
     pub examined: u64,
 }
 
-// Refuses a tolerance outside its range.
-fn tolerance_refusal(t: Tolerance) -> Result<(), Refusal>
-    ensures { code_of result ≡ tolerance_refusal (tolerance_in t) }
+// A call's tolerance; refused where it is outside its range.
+fn allowed_tolerance(a: u64, b: u64) -> Result<Tolerance, Refusal>
+    ensures number { code_of result ≡ tolerance_refusal (tolerance_of a b) }
+    ensures value { IfOk result (λ t. tolerance_in t ≡ tolerance_of a b) }
 {
-    if !tolerance_allowed(t) {
-        return Err(Refusal::Range);
-    }
-    Ok(())
+    Tolerance::new(a, b).ok_or(Refusal::Range)
 }
 
-// Refuses weights outside their range, and then a tolerance outside its own.
-fn terms_refusal(terms: Terms) -> Result<(), Refusal>
-    ensures { (st : State) → code_of result ≡ refusal st (eliminate (weights_in terms.weights) (tolerance_in terms.tolerance)) }
+// A call's weights and then its tolerance, each refused where it is outside its range.
+fn allowed_terms(w1: u64, w2: u64, w3: u64, w4: u64, a: u64, b: u64) -> Result<Terms, Refusal>
+    ensures number { (st : State) → code_of result ≡ refusal st (eliminate (weights_of w1 w2 w3 w4) (tolerance_of a b)) }
+    ensures weights { IfOk result (λ t. weights_in t.weights ≡ weights_of w1 w2 w3 w4) }
+    ensures tolerance { IfOk result (λ t. tolerance_in t.tolerance ≡ tolerance_of a b) }
 {
-    weights_refusal(terms.weights)?;
-    tolerance_refusal(terms.tolerance)
+    let weights = allowed_weights(w1, w2, w3, w4)?;
+    let tolerance = allowed_tolerance(a, b)?;
+    Ok(Terms { weights, tolerance })
 }
 
 // Strikes strikable roles, in passes, the more redundant first, where the quality then stays below a/b times what it was.
@@ -55,24 +57,13 @@ pub fn panel_eliminate(
 ) -> Result<Eliminated, Refusal>
     ensures { eliminate_result result rec.new ≡ edit rec.old (eliminate (weights_of w1 w2 w3 w4) (tolerance_of a b)) }
 {
-    let terms = Terms {
-        weights: Weights {
-            role: w1,
-            member: w2,
-            permission: w3,
-            link: w4,
-        },
-        tolerance: Tolerance {
-            numerator: a,
-            denominator: b,
-        },
-    };
-    let mut index = [0u64; INDEX_LENGTH];
-    let mut work = [0u64; WORK_LENGTH];
-    enter(rec, &mut index, &mut work[SENIORS..DOWN])?;
-    terms_refusal(terms)?;
+    let mut index = Index::empty();
+    let mut seniors = [0u64; 256];
+    enter(rec, &mut index, &mut seniors)?;
+    let terms = allowed_terms(w1, w2, w3, w4, a, b)?;
+    let rec: &mut Record = rec.as_mut_array().unwrap();
     let counts = count_rows(rec);
-    let run = eliminate_all(rec, &mut index, &mut work, terms, counts);
+    let run = eliminate_all(rec, &mut index, &mut seniors, terms, counts);
     Ok(Eliminated {
         removed: run.changed,
         examined: run.examined,

@@ -12,7 +12,7 @@ use refusals::Refusal;
 pub fn panel_may(rec: &[u64], u: u64, p: u64) -> Result<bool, Refusal>
     ensures { may_result result ≡ may_of rec.now u p }
 {
-    enter_to_read(rec)?;
+    let rec = enter_to_read(rec)?;
     pair_refusal(rec[0], rec[1], u, p)?;
     Ok(may(rec, u as usize, p as usize))
 }

@@ -11,6 +11,7 @@ use limits::{crew_refusal, limits_refusal};
 use mining::mine;
 use records::write_fresh;
 use refusals::Refusal;
+use tables::crew_rows;
 
 // Refuses what can be told without mining.
 fn lent_refusal(n: u64, m: u64, crew: &[u64], rec: &[u64]) -> Result<(), Refusal>
@@ -28,9 +29,10 @@ pub fn panel_mine(n: u64, m: u64, crew: &[u64], rec: &mut [u64]) -> Result<u64, 
 {
     lent_refusal(n, m, crew, rec)?;
     let mut table = [0u64; 512];
-    let Some(c) = mine(crew, 0, n as usize, &mut table) else {
+    let rows = crew_rows(crew, 0, n as usize);
+    let Some(c) = mine(rows, &mut table) else {
         return Err(Refusal::Candidates);
     };
-    write_fresh(rec, &table, crew, n as usize, m, c);
+    write_fresh(rec.as_mut_array().unwrap(), &table, rows, m, c);
     Ok(c as u64)
 }

@@ -16,8 +16,9 @@ use Rattle.model.specs.Calls.{unfit, edit}
 use Rattle.model.proofs.Refusals.{restore_is_6, restore_is_7, restore_iff}
 use Rattle.rows.specs.Linked.{Ready}
 use Rattle.calls_edit.proofs.Edits.{replied_with, edit_accepted, role_count, standing_word}
+use Rattle.indexes.specs.declared.index.Index.{Index}
 
-module _ (ws index seniors : List ℕ) (ready : Ready (state_of ws) ws index seniors) (k : ℕ) where
+module _ (ws : List ℕ) (index : Index) (seniors : List ℕ) (ready : Ready (state_of ws) ws index seniors) (k : ℕ) where
   count : get_or ws 2 0 ≡ candidate_count (roles_of (state_of ws))
   count = role_count ws ready.limits ready.afresh
 
@@ -38,7 +39,7 @@ module _ (ws index seniors : List ℕ) (ready : Ready (state_of ws) ws index sen
     restore_0 gone = sym ((restore_iff (state_of ws) k).1 (below, sym mark ∙ gone))
 
 -- the record with the role
-pub restored : (ws after index seniors : List ℕ) (k : ℕ) → unfit ws ≡ 0 → refusal (state_of ws) (restore k) ≡ 0
+pub restored : (ws after : List ℕ) (index : Index) (seniors : List ℕ) (k : ℕ) → unfit ws ≡ 0 → refusal (state_of ws) (restore k) ≡ 0
     → Ready (standing_now (state_of ws) ((state_of ws).standing ∪ single k)) after index seniors → replied_with 0 after ≡ edit ws (restore k)
 unfolding accepted
 restored ws after index seniors k z e done =

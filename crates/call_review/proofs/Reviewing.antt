@@ -17,6 +17,7 @@ use Rattle.edit_trials.specs.Trying.{SameCrewList, run_at}
 use Rattle.edit_trials.proofs.Runs.{crew-built}
 use Rattle.calls_edit.proofs.Edits.{edit_accepted}
 use Rattle.call_review.specs.Results.{review_result}
+use Rattle.indexes.specs.declared.index.Index.{Index}
 
 -- the weights are its only check
 pub by_weights : (st : State) (w : Weights) → weights_refusal w ≡ refusal st (review w)
@@ -24,7 +25,7 @@ unfolding refusal
 by_weights st w = refl
 
 -- the record that the passes leave
-pub given : (ws after index seniors : List ℕ) (w : Weights) (g : Progress) → unfit ws ≡ 0 → refusal (state_of ws) (review w) ≡ 0
+pub given : (ws after : List ℕ) (index : Index) (seniors : List ℕ) (w : Weights) (g : Progress) → unfit ws ≡ 0 → refusal (state_of ws) (review w) ≡ 0
     → Ready (state_of after) after index seniors → SameCrewList (state_of ws) after → run_at after g 0 ≡ reviewed (roles_of (state_of ws)) w (state_of ws).standing
     → review_result (Ok (record { restored = g.changed; examined = g.examined })) after ≡ edit ws (review w)
 unfolding accepted run_at

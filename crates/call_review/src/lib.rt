@@ -3,14 +3,15 @@
 ghost use Rattle.std.specs.Prelude.{◌≡◌};
 ghost use Rattle.model.specs.Calls.{edit};
 ghost use Rattle.model.specs.Machine.Call.{review};
-ghost use Rattle.quality.specs.Numbers.{weights_of};
+ghost use Rattle.quality.specs.Given.{weights_of};
 ghost use Rattle.call_review.specs.Results.{review_result};
 
-use calls::{enter, weights_refusal};
+use calls::{allowed_weights, enter};
 use edit_review::review_all;
-use indexes::INDEX_LENGTH;
-use quality::{Weights, count_rows};
+use indexes::Index;
+use quality::count_rows;
 use refusals::Refusal;
+use tables::Record;
 
 // How many roles a review restored, and how many it examined.
 #[derive(Clone, Copy)]
@@ -29,16 +30,11 @@ pub fn panel_review(
 ) -> Result<Reviewed, Refusal>
     ensures { review_result result rec.new ≡ edit rec.old (review (weights_of w1 w2 w3 w4)) }
 {
-    let weights = Weights {
-        role: w1,
-        member: w2,
-        permission: w3,
-        link: w4,
-    };
-    let mut index = [0u64; INDEX_LENGTH];
+    let mut index = Index::empty();
     let mut seniors = [0u64; 256];
     enter(rec, &mut index, &mut seniors)?;
-    weights_refusal(weights)?;
+    let rec: &mut Record = rec.as_mut_array().unwrap();
+    let weights = allowed_weights(w1, w2, w3, w4)?;
     let counts = count_rows(rec);
     let run = review_all(rec, &index, &mut seniors, weights, counts);
     Ok(Reviewed {

@@ -15,11 +15,12 @@ use Rattle.model.specs.State.{State, roles_of, standing_now}
 use Rattle.model.specs.Record.{built, state_of, Limits}
 use Rattle.model.specs.Calls.{unfit, edit}
 use Rattle.model.proofs.Refusals.{strike_is_6, strike_is_7, strike_is_8, strike_iff}
+use Rattle.indexes.specs.declared.index.Index.{Index}
 use Rattle.indexes.specs.Index.{Indexed}
 use Rattle.rows.specs.Linked.{Ready}
 use Rattle.calls_edit.proofs.Edits.{replied_with, edit_accepted, role_count, standing_word}
 
-module _ (ws index seniors : List ℕ) (ready : Ready (state_of ws) ws index seniors) (k : ℕ) where
+module _ (ws : List ℕ) (index : Index) (seniors : List ℕ) (ready : Ready (state_of ws) ws index seniors) (k : ℕ) where
   count : get_or ws 2 0 ≡ candidate_count (roles_of (state_of ws))
   count = role_count ws ready.limits ready.afresh
 
@@ -48,7 +49,7 @@ module _ (ws index seniors : List ℕ) (ready : Ready (state_of ws) ws index sen
       strike_0 h = sym ((strike_iff (state_of ws) k).1 (below, sym mark ∙ here, sym able ∙ h))
 
 -- the record without the role
-pub struck : (ws after index seniors : List ℕ) (k : ℕ) → unfit ws ≡ 0 → refusal (state_of ws) (strike k) ≡ 0
+pub struck : (ws after : List ℕ) (index : Index) (seniors : List ℕ) (k : ℕ) → unfit ws ≡ 0 → refusal (state_of ws) (strike k) ≡ 0
     → Ready (standing_now (state_of ws) ((state_of ws).standing ∖ single k)) after index seniors → replied_with 0 after ≡ edit ws (strike k)
 unfolding accepted
 struck ws after index seniors k z e done =

@@ -1,12 +1,12 @@
 #![tactic(auto)]
 
-ghost use Rattle.std.specs.Prelude.{◌≡◌, List, ℕ, ◌≤◌, length, get_or};
+ghost use Rattle.std.specs.Prelude.{◌≡◌, List, ℕ, ◌≤◌, get_or};
 ghost use Rattle.model.specs.Calls.{edit};
 ghost use Rattle.model.specs.Hierarchy.{Roles};
 ghost use Rattle.model.specs.Machine.{refusal};
 ghost use Rattle.model.specs.Machine.Call.{strike};
-ghost use Rattle.model.specs.Record.{record_length, state_of};
-ghost use Rattle.indexes.specs.Index.{index_length, Indexed};
+ghost use Rattle.model.specs.Record.{state_of};
+ghost use Rattle.indexes.specs.Index.{Indexed};
 ghost use Rattle.refusals.specs.Numbers.{code_of};
 ghost use Rattle.rows.specs.Linked.{Ready};
 ghost use Rattle.call_strike.specs.Results.{strike_result};
@@ -14,15 +14,13 @@ ghost use Rattle.call_strike.specs.Results.{strike_result};
 use calls::enter;
 use edit_rows::take_out;
 use edit_test::can_strike;
-use indexes::INDEX_LENGTH;
+use indexes::Index;
 use refusals::Refusal;
-use tables::{STANDING, load};
+use tables::{Record, STANDING, load};
 
 // Refuses a role k that is none, that is absent, or that can't be struck.
-fn strike_refusal(rec: &[u64], index: &mut [u64], k: u64) -> Result<(), Refusal>
-    requires rec_len { length rec.now ≡ record_length }
+fn strike_refusal(rec: &Record, index: &mut Index, k: u64) -> Result<(), Refusal>
     requires rec_bound { get_or rec.now 2 0 ≤ 128 }
-    requires index_len { length index.old ≡ index_length }
     ensures by_index { (seniors : List ℕ) → Ready (state_of rec.now) rec.now index.old seniors → code_of result ≡ refusal (state_of rec.now) (strike k) }
     ensures indexed { (ρ : Roles) → Indexed ρ index.old → Indexed ρ index.new }
 {
@@ -42,9 +40,10 @@ fn strike_refusal(rec: &[u64], index: &mut [u64], k: u64) -> Result<(), Refusal>
 pub fn panel_strike(rec: &mut [u64], k: u64) -> Result<(), Refusal>
     ensures { strike_result result rec.new ≡ edit rec.old (strike k) }
 {
-    let mut index = [0u64; INDEX_LENGTH];
+    let mut index = Index::empty();
     let mut seniors = [0u64; 256];
     enter(rec, &mut index, &mut seniors)?;
+    let rec: &mut Record = rec.as_mut_array().unwrap();
     strike_refusal(rec, &mut index, k)?;
     take_out(rec, &index, &mut seniors, k as usize);
     Ok(())

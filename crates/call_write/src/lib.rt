@@ -14,7 +14,7 @@ use text_write::{put_crew, text_length};
 pub fn panel_write_crew(rec: &[u64], text: &mut [u8]) -> Result<usize, Refusal>
     ensures { write_result result text.new ≡ write_crew rec.now text.old }
 {
-    enter_to_read(rec)?;
+    let rec = enter_to_read(rec)?;
     let length = text_length(rec[0], rec[1]);
     if text.len() < length {
         return Err(Refusal::Short);

@@ -1,17 +1,14 @@
 // The entrance of every call on a record: its length, then its soundness, with the index that this fills.
-ghost use Rattle.std.specs.Prelude.{◌≡◌, ℕ, length, get_or};
-ghost use Rattle.model.specs.Record.{record_length};
+ghost use Rattle.std.specs.Prelude.{◌≡◌, IfOk};
 ghost use Rattle.model.specs.Refusals.{length_refusal};
 ghost use Rattle.model.specs.Calls.{unfit};
-ghost use Rattle.indexes.specs.Index.{index_length};
 ghost use Rattle.refusals.specs.Numbers.{code_of};
 ghost use Rattle.calls.specs.Entrance.{Judged, Entered};
-ghost use Rattle.tables.specs.Tables.{table128_length};
 
-use indexes::INDEX_LENGTH;
+use indexes::Index;
 use records::is_sound;
 use refusals::Refusal;
-use tables::LENGTH;
+use tables::{LENGTH, Record, Table128};
 
 // Refuses a record that has not its length.
 pub fn length_refusal(rec: &[u64]) -> Result<(), Refusal>
@@ -24,11 +21,11 @@ pub fn length_refusal(rec: &[u64]) -> Result<(), Refusal>
 }
 
 // Refuses a record that is not sound.
-pub fn soundness_refusal(rec: &[u64], index: &mut [u64], seniors: &mut [u64]) -> Result<(), Refusal>
-    requires rec_len { length rec.now ≡ record_length }
-    requires index_len { length index.old ≡ index_length }
-    requires seniors_len { length seniors.old ≡ table128_length }
-    requires by_index { (i : ℕ) → get_or seniors.old i 0 ≡ 0 }
+pub fn soundness_refusal(
+    rec: &Record,
+    index: &mut Index,
+    seniors: &mut Table128,
+) -> Result<(), Refusal>
     ensures { Judged rec.now index.new seniors.new result }
 {
     if !is_sound(rec, index, seniors) {
@@ -38,21 +35,20 @@ pub fn soundness_refusal(rec: &[u64], index: &mut [u64], seniors: &mut [u64]) ->
 }
 
 // Both, in their order.
-pub fn enter(rec: &[u64], index: &mut [u64], seniors: &mut [u64]) -> Result<(), Refusal>
-    requires index_len { length index.old ≡ index_length }
-    requires seniors_len { length seniors.old ≡ table128_length }
-    requires by_index { (i : ℕ) → get_or seniors.old i 0 ≡ 0 }
+pub fn enter(rec: &[u64], index: &mut Index, seniors: &mut Table128) -> Result<(), Refusal>
     ensures { Entered rec.now index.new seniors.new result }
 {
-    length_refusal(rec)?;
+    let rec: &Record = rec.as_array().ok_or(Refusal::Length)?;
     soundness_refusal(rec, index, seniors)
 }
 
-// The same for a call that asks nothing of the index.
-pub fn enter_to_read(rec: &[u64]) -> Result<(), Refusal>
-    ensures { code_of result ≡ unfit rec.now }
+// The same for a call that asks nothing of the index: it gives the record.
+pub fn enter_to_read(rec: &[u64]) -> Result<&Record, Refusal>
+    ensures number { code_of result ≡ unfit rec.now }
+    ensures given { IfOk result (λ r. r.now ≡ rec.now) }
 {
-    let mut index = [0u64; INDEX_LENGTH];
+    let mut index = Index::empty();
     let mut seniors = [0u64; 256];
-    enter(rec, &mut index, &mut seniors)
+    enter(rec, &mut index, &mut seniors)?;
+    Ok(rec.as_array().unwrap())
 }

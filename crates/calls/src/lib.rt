@@ -5,4 +5,4 @@ mod entrance;
 mod numbers;
 
 pub use entrance::{enter, enter_to_read, length_refusal, soundness_refusal};
-pub use numbers::{pair_refusal, weights_refusal};
+pub use numbers::{allowed_weights, pair_refusal};

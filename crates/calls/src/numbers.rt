@@ -1,20 +1,19 @@
 // The checks of a call's numbers that several calls share.
-ghost use Rattle.std.specs.Prelude.{◌≡◌};
+ghost use Rattle.std.specs.Prelude.{◌≡◌, IfOk};
 ghost use Rattle.model.specs.Refusals.{pair_refusal, weights_refusal};
+ghost use Rattle.quality.specs.Given.{weights_of};
 ghost use Rattle.quality.specs.Numbers.{weights_in};
 ghost use Rattle.refusals.specs.Numbers.{code_of};
 
-use quality::{Weights, weights_allowed};
+use quality::Weights;
 use refusals::Refusal;
 
-// Refuses weights outside their range.
-pub fn weights_refusal(w: Weights) -> Result<(), Refusal>
-    ensures { code_of result ≡ weights_refusal (weights_in w) }
+// A call's weights; refused where one is outside its range.
+pub fn allowed_weights(w1: u64, w2: u64, w3: u64, w4: u64) -> Result<Weights, Refusal>
+    ensures number { code_of result ≡ weights_refusal (weights_of w1 w2 w3 w4) }
+    ensures value { IfOk result (λ w. weights_in w ≡ weights_of w1 w2 w3 w4) }
 {
-    if !weights_allowed(w) {
-        return Err(Refusal::Range);
-    }
-    Ok(())
+    Weights::new(w1, w2, w3, w4).ok_or(Refusal::Range)
 }
 
 // Refuses a user u that is not below n, and a permission p that is not below m.

@@ -4,7 +4,7 @@ use Rattle.std.specs.Prelude.{Bool, List, [], ◌∷◌, ℕ, zero, suc, ◌+◌
 use Rattle.sets.specs.Truth.{◌and◌, when◌then◌else◌, all}
 use Rattle.model.specs.Machine.{Call, Reply}
 use Rattle.model.specs.Machine.Call.{strike, restore, eliminate, review}
-use Rattle.quality.specs.Numbers.{weights_of, tolerance_of}
+use Rattle.quality.specs.Given.{weights_of, tolerance_of}
 
 unfoldable pub call_at : List ℕ → ℕ → Call
 call_at ws i =

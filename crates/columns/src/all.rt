@@ -3,17 +3,17 @@ ghost use Rattle.std.specs.Prelude.{◌≡◌, List, [], ◌∷◌, ℕ, ◌+◌
 ghost use Rattle.sets.specs.Sets.{has, collect};
 ghost use Rattle.sets.specs.Words.{value};
 ghost use Rattle.model.specs.Lists.{set_at};
-ghost use Rattle.tables.specs.Tables.{Filled, table128_length};
+ghost use Rattle.tables.specs.Tables.{Filled};
 ghost use Rattle.columns.specs.Loading.{Loaded};
 
 use crate::one::{column, in_first_word};
 use blocks::transpose;
 use sets::Set128;
-use tables::store;
+use tables::{Table128, store};
 
 // The columns of a table of n sets: entry k holds the places whose set holds k. A few are gathered one by one, since a block has 64.
-pub fn fill_columns(table: &[u64], n: usize, c: usize, out: &mut [u64])
-    requires { (n ≤ 128) × (2 * n ≤ length table.now) × (length out.old ≡ table128_length) × (c ≤ 128) }
+pub fn fill_columns(table: &[u64], n: usize, c: usize, out: &mut Table128)
+    requires { (n ≤ 128) × (2 * n ≤ length table.now) × (c ≤ 128) }
     ensures { Filled 2 c (λ k. collect n (λ i. has (set_at 2 table.now (2 * i)) k)) out.old out.new }
 {
     if c < 16 {
@@ -23,8 +23,8 @@ pub fn fill_columns(table: &[u64], n: usize, c: usize, out: &mut [u64])
     fill_columns_of(table, 2, n, c, out);
 }
 
-fn fill_few_columns(table: &[u64], n: usize, c: usize, out: &mut [u64])
-    requires { (n ≤ 128) × (2 * n ≤ length table.now) × (length out.old ≡ table128_length) × (c ≤ 128) }
+fn fill_few_columns(table: &[u64], n: usize, c: usize, out: &mut Table128)
+    requires { (n ≤ 128) × (2 * n ≤ length table.now) × (c ≤ 128) }
     ensures { Filled 2 c (λ k. collect n (λ i. has (set_at 2 table.now (2 * i)) k)) out.old out.new }
 {
     for k in 0..c {
@@ -55,7 +55,7 @@ fn fill_word(table: &[u64], w: usize, n: usize, j: usize, c: usize, out: &mut [u
     store_pairs(&low, &high, 64 * j, in_first_word(c - 64 * j), out);
 }
 
-// What `gather` tells of one bit, for all 64 at once. The block is empty at first.
+// The columns of 64 items at once, from word j of `count` sets. The block is empty at first.
 fn gather_all(table: &[u64], w: usize, from: usize, count: usize, j: usize, block: &mut [u64])
     requires { (length block.old ≡ 64) × ((b : ℕ) → get_or block.old b 0 ≡ 0) × (from ≤ 64) × (count ≤ 64) × ((q : ℕ) → q < count → w * (from + q) + j < length table.now) }
     ensures { (b : ℕ) → b < 64 → get_or block.new b 0 ≡ collect count (λ q. has (get_or table.now (w * (from + q) + j) 0) b) }

@@ -1,9 +1,32 @@
-ghost use Rattle.std.specs.Prelude.{◌≡◌, ℕ, ◌+◌, ◌*◌, ◌≤◌, ◌<◌, min, length, get_or};
+ghost use Rattle.std.specs.Prelude.{◌≡◌, Bool, ℕ, ◌+◌, ◌*◌, ◌≤◌, ◌<◌, min, length, get_or};
 ghost use Rattle.sets.specs.Held.{set_of};
 ghost use Rattle.sets.specs.Sets.{has, collect};
 ghost use Rattle.model.specs.Lists.{set_at};
 
 use sets::{Set128, place_of, with_bit};
+
+// The items below n for which the test holds. A word of the answer is gathered at a time.
+pub fn gathered<F: Fn(usize) -> bool>(n: usize, test: F) -> Set128
+    requires n_bound { n ≤ 128 }
+    requires callable { (i : ℕ) → i < n → F.pre test i }
+    ensures { (f : ℕ → Bool) → ((i : ℕ) (t : Bool) → i < n → F.post test i t → t ≡ f i) → set_of result ≡ collect n f }
+{
+    let first = in_first_word(n);
+    Set128::from_words([word_of(&test, 0, first), word_of(&test, 64, n - first)])
+}
+
+// Bit q tells of item `from` + q, for `count` items.
+fn word_of<F: Fn(usize) -> bool>(test: &F, from: usize, count: usize) -> u64
+    requires bounds { (from ≤ 64) × (count ≤ 64) }
+    requires callable { (q : ℕ) → q < count → F.pre test.now (from + q) }
+    ensures { (f : ℕ → Bool) → ((q : ℕ) (t : Bool) → q < count → F.post test.now (from + q) t → t ≡ f q) → result ≡ collect count f }
+{
+    let mut bits = 0;
+    for q in 0..count {
+        bits = with_bit(bits, q, test(from + q));
+    }
+    bits
+}
 
 // The places below n whose set in the table holds k: a column of the table, read downward.
 pub fn column(table: &[u64], n: usize, k: usize) -> Set128
@@ -14,7 +37,7 @@ pub fn column(table: &[u64], n: usize, k: usize) -> Set128
     column_of(table, 2, n, k)
 }
 
-// The same of a table with w words to a set. A word of the answer is gathered at a time.
+// The same of a table with w words to a set.
 pub fn column_of(table: &[u64], w: usize, n: usize, k: usize) -> Set128
     requires n_bound { n ≤ 128 }
     requires n_in_bounds { w * n ≤ length table.now }
@@ -26,11 +49,13 @@ pub fn column_of(table: &[u64], w: usize, n: usize, k: usize) -> Set128
     if w <= j {
         return Set128::empty();
     }
-    let first = in_first_word(n);
-    Set128::from_words([
-        gather(table, w, 0, first, j, b),
-        gather(table, w, 64, n - first, j, b),
-    ])
+    gathered(
+        n,
+        |i|
+            requires { (w * i + j < length table.now) × (b < 64) }
+            ensures { result ≡ has (get_or table.entry.now (w * i + j) 0) b }
+        { (table[w * i + j] >> b) & 1 == 1 },
+    )
 }
 
 // Of n items, how many stand in the first word.
@@ -38,16 +63,4 @@ pub fn in_first_word(n: usize) -> usize
     ensures { result ≡ min n 64 }
 {
     n.min(64)
-}
-
-// Bit b of word j of `count` sets from set `from` on.
-fn gather(table: &[u64], w: usize, from: usize, count: usize, j: usize, b: usize) -> u64
-    requires { (from ≤ 64) × (count ≤ 64) × (b < 64) × ((q : ℕ) → q < count → w * (from + q) + j < length table.now) }
-    ensures { result ≡ collect count (λ q. has (get_or table.now (w * (from + q) + j) 0) b) }
-{
-    let mut bits = 0;
-    for q in 0..count {
-        bits = with_bit(bits, q, (table[w * (from + q) + j] >> b) & 1 == 1);
-    }
-    bits
 }

@@ -18,6 +18,7 @@ use Rattle.model.specs.State.{State, roles_of}
 use Rattle.model.proofs.Reading.{permission_iff, strikable_stands, strikables_iff}
 use Rattle.model.proofs.Building.{stands_below}
 use Rattle.model.proofs.Steps.{limits_ordered}
+use Rattle.indexes.specs.declared.index.Index.{Index}
 use Rattle.indexes.specs.Index.{HoldersFor, AllHolders, Indexed}
 use Rattle.edit_rows.proofs.Changing.{standing_read}
 
@@ -28,16 +29,16 @@ pub record Gathered (st : State) (found rest : ℕ) : Type 0 where
   pub standing : (k : ℕ) → So (has rest k) → So (has st.standing k)
 
 -- the record is that of the state, and the index that of its roles
-pub record StateHeld (st : State) (ws index : List ℕ) : Type 0 where
+pub record StateHeld (st : State) (ws : List ℕ) (index : Index) : Type 0 where
   pub limits : Limits st
   pub record_built : ws ≡ built st
   pub indexed : Indexed (roles_of st) index
   pub holding : AllHolders (roles_of st) index
 
-abbrev pub Gathering : List ℕ → List ℕ → ℕ → ℕ → Type 0
+abbrev pub Gathering : List ℕ → Index → ℕ → ℕ → Type 0
 Gathering ws index found rest = (st : State) → StateHeld st ws index → Gathered st found rest
 
-pub gathering_start : (ws index : List ℕ) (found rest : ℕ) → found ≡ 0 → rest ≡ set_at 2 ws 4 → Gathering ws index found rest
+pub gathering_start : (ws : List ℕ) (index : Index) (found rest : ℕ) → found ≡ 0 → rest ≡ set_at 2 ws 4 → Gathering ws index found rest
 gathering_start ws index found rest ef er st told =
     let e : rest ≡ st.standing = er ∙ standing_read st told.limits ws told.record_built in
     let ρ = roles_of st in
@@ -48,10 +49,10 @@ gathering_start ws index found rest ef er st told =
     }
 
 -- the holders of all permissions are those of a role's direct permissions
-direct_held : (st : State) (index : List ℕ) (k : ℕ) → AllHolders (roles_of st) index → HoldersFor (roles_of st) (direct_permissions (roles_of st) st.standing k) index
+direct_held : (st : State) (index : Index) (k : ℕ) → AllHolders (roles_of st) index → HoldersFor (roles_of st) (direct_permissions (roles_of st) st.standing k) index
 direct_held st index k h p t = h p ((permission_iff (roles_of st) st.standing k p).0 t).0
 
-pub gathering_more : (ws index : List ℕ) (found rest k : ℕ) (t : Bool) (found' rest' : ℕ) → Gathering ws index found rest → So (has rest k)
+pub gathering_more : (ws : List ℕ) (index : Index) (found rest k : ℕ) (t : Bool) (found' rest' : ℕ) → Gathering ws index found rest → So (has rest k)
     → ((st : State) → Limits st → ws ≡ built st → Indexed (roles_of st) index → HoldersFor (roles_of st) (direct_permissions (roles_of st) st.standing k) index
     → So (has st.standing k) → t ≡ strikable (roles_of st) st.standing k)
     → found' ≡ (when t then found ∪ single k else found) → rest' ≡ rest ∖ single k → Gathering ws index found' rest'
@@ -96,7 +97,7 @@ gathering_more ws index found rest k t found' rest' inv there tells ef er st tol
       standing = on;
     })
 
-pub gathering_all : (ws index : List ℕ) (found rest : ℕ) → Gathering ws index found rest → rest ≡ 0
+pub gathering_all : (ws : List ℕ) (index : Index) (found rest : ℕ) → Gathering ws index found rest → rest ≡ 0
     → (st : State) → Limits st → ws ≡ built st → Indexed (roles_of st) index → AllHolders (roles_of st) index → found ≡ strikables (roles_of st) st.standing
 gathering_all ws index found rest inv e st lim eb ix held =
     let v = inv st (record { limits = lim; record_built = eb; indexed = ix; holding = held }) in

@@ -3,7 +3,6 @@
 use mathlib.Core.Path.{◌≡◌, refl, sym, ◌∙◌, ap, ap₂}
 use mathlib.Core.Bool.{Bool, true, false, So}
 use mathlib.Core.Logic.{◌↔◌}
-use mathlib.Core.List.{List}
 use Prim.Native.Nat.{ℕ, ◌^◌, ◌≤◌, ◌<◌, min}
 use native.Mathlib.Nat.{le_refl, le_trans, lt_irrefl}
 use native.Mathlib.Omega.{arith}
@@ -15,7 +14,6 @@ use Rattle.sets.proofs.Truth.{by_test, So-not, when-true, when-false}
 use Rattle.sets.proofs.Members.{has-zero, item_below}
 use Rattle.sets.proofs.Order.{∩-iff, ∩-lt, ∖-iff, subset_refl, collect_iff, collect_lt}
 use Rattle.sets.proofs.Counts.{ones_some, dropped_fewer}
-use Rattle.model.specs.Lists.{set_at}
 use Rattle.model.specs.Hierarchy.{Roles, candidate_count, permission_set}
 use Rattle.model.specs.Coverage.{covers}
 use Rattle.model.specs.Indexes.{roles_of_user, down_from, up_from, first_holders}
@@ -25,7 +23,9 @@ use Rattle.model.specs.State.{State, roles_of}
 use Rattle.model.proofs.Ends.{AtMost, redundancy_iff, redundancy_ends, nearer_holder, nearer_user, sure_holders}
 use Rattle.model.proofs.Shortcuts.{down_from_iff}
 use Rattle.edit_order.specs.Ranking.{LeastTo}
-use Rattle.edit_work.specs.Work.{down_start, up_start, samples_start, holding_start, further_start, first_start, entry, holding, further, Prepared, PreparedFor}
+use Rattle.sets.specs.Held.{set_of}
+use Rattle.edit_work.specs.declared.work.Work.{Work}
+use Rattle.edit_work.specs.Work.{entries, holding, further, Prepared, PreparedFor}
 use Rattle.edit_work.proofs.Sampling.{with_roles_iff}
 
 -- a test as a number
@@ -86,32 +86,32 @@ module _ (b s : ℕ) (P : ℕ → ℕ → Type 0) (m rest : ℕ) (inv : Left b s
 
 -- ---- one sample: `own` are the roles counted that it has
 
-abbrev pub One : List ℕ → ℕ → ℕ → ℕ → Type 0
-One ws own x g = x ≤ ones (own ∩ entry ws up_start g)
+abbrev pub One : Work → ℕ → ℕ → ℕ → Type 0
+One ws own x g = x ≤ ones (own ∩ entries ws.up g)
 
-pub record Asking (ws : List ℕ) (own b s m rest : ℕ) : Type 0 where
+pub record Asking (ws : Work) (own b s m rest : ℕ) : Type 0 where
   pub left : Left b s (One ws own) m rest
 
-pub asking_start : (ws : List ℕ) (own b s : ℕ) → Asking ws own b s b s
+pub asking_start : (ws : Work) (own b s : ℕ) → Asking ws own b s b s
 asking_start ws own b s = record { left = left_start b s (One ws own) }
 
 -- the first holder g is asked: m' is the smaller of m and its number
-pub record HolderAsked (ws : List ℕ) (own m rest g m' : ℕ) : Type 0 where
+pub record HolderAsked (ws : Work) (own m rest g m' : ℕ) : Type 0 where
   pub there : So (has rest g)
   pub number : (x : ℕ) → (x ≤ m') ↔ ((x ≤ m) × One ws own x g)
 
-pub asked : (ws : List ℕ) (own m rest g up meet n m' : ℕ) → So (has rest g) → up ≡ entry ws up_start g → meet ≡ own ∩ up → n ≡ ones meet
+pub asked : (ws : Work) (own m rest g up meet n m' : ℕ) → So (has rest g) → up ≡ entries ws.up g → meet ≡ own ∩ up → n ≡ ones meet
     → m' ≡ min n m → HolderAsked ws own m rest g m'
 asked ws own m rest g up meet n m' there eu em en e =
-    let d : n ≡ ones (own ∩ entry ws up_start g) = en ∙ ap ones (em ∙ ap (λ (y : ℕ). own ∩ y) eu) in
+    let d : n ≡ ones (own ∩ entries ws.up g) = en ∙ ap ones (em ∙ ap (λ (y : ℕ). own ∩ y) eu) in
     record { there = there; number = λ x. rw d at (smaller_iff n m m' e x) }
 
-module _ (ws : List ℕ) (own b s m rest : ℕ) (given : (ρ : Roles) × Prepared ρ ws × (s < 2 ^ candidate_count ρ)) (inv : Asking ws own b s m rest) where
+module _ (ws : Work) (own b s m rest : ℕ) (given : (ρ : Roles) × Prepared ρ ws × (s < 2 ^ candidate_count ρ)) (inv : Asking ws own b s m rest) where
   module _ (g m' : ℕ) (a : HolderAsked ws own m rest g m') where
     known : g < candidate_count given.0
     known = item_below (candidate_count given.0) s g given.2 (inv.left.within g a.there)
 
-    pub asking_more : (d rest' : ℕ) → d ≡ entry ws down_start g → rest' ≡ rest ∖ d → Asking ws own b s m' rest'
+    pub asking_more : (d rest' : ℕ) → d ≡ entries ws.down g → rest' ≡ rest ∖ d → Asking ws own b s m' rest'
     asking_more d rest' ed er =
         let ρ = given.0 in
         let P = given.1 in
@@ -123,13 +123,13 @@ module _ (ws : List ℕ) (own b s m rest : ℕ) (given : (ρ : Roles) × Prepare
               rw (P.reach.up j ((down_from_iff ρ g j).0 down).0) (nearer_holder ρ own x g j down (rw (P.reach.up g known) at l))) er;
         }
 
-    pub asking_fewer : (d : ℕ) → d ≡ entry ws down_start g → ones (rest ∖ d) < ones rest
+    pub asking_fewer : (d : ℕ) → d ≡ entries ws.down g → ones (rest ∖ d) < ones rest
     asking_fewer d ed =
         let ρ = given.0 in
         dropped_fewer rest d g a.there (rw (ed ∙ given.1.reach.down g known) ((down_from_iff ρ g g).1 (known, subset_refl (permission_set ρ g))))
 
     -- the floor is met
-    pub asking_stop : (floor : ℕ) → m' ≤ floor → LeastTo floor m' b s (λ g. ones (own ∩ entry ws up_start g))
+    pub asking_stop : (floor : ℕ) → m' ≤ floor → LeastTo floor m' b s (λ g. ones (own ∩ entries ws.up g))
     asking_stop floor l =
         record {
           bound = le_trans ((a.number m').0 (le_refl m')).0 inv.left.bound;
@@ -137,7 +137,7 @@ module _ (ws : List ℕ) (own b s m rest : ℕ) (given : (ρ : Roles) × Prepare
           least = λ y. absurd (lt_irrefl floor (omega arith));
         }
 
-  pub asking_all : (floor : ℕ) → rest ≡ 0 → LeastTo floor m b s (λ g. ones (own ∩ entry ws up_start g))
+  pub asking_all : (floor : ℕ) → rest ≡ 0 → LeastTo floor m b s (λ g. ones (own ∩ entries ws.up g))
   asking_all floor e =
       let a = left_none b s (One ws own) m rest inv.left e in
       record { bound = inv.left.bound; above = λ x h f. (a x).1 (h, f); least = λ y. ((a m).0 (le_refl m)).1 }
@@ -145,13 +145,13 @@ module _ (ws : List ℕ) (own b s m rest : ℕ) (given : (ρ : Roles) × Prepare
 -- ---- all samples that hold a role
 
 -- x is at most what sample i gives, hs being the first holders down from the role
-abbrev Of : List ℕ → ℕ → ℕ → ℕ → ℕ → Type 0
-Of ws counted hs x i = AtMost (entry ws up_start) counted hs (entry ws samples_start i) x
+abbrev Of : Work → ℕ → ℕ → ℕ → ℕ → Type 0
+Of ws counted hs x i = AtMost (entries ws.up) counted hs (entries ws.samples i) x
 
-pub record Walking (ws : List ℕ) (hs counted b s m rest : ℕ) : Type 0 where
+pub record Walking (ws : Work) (hs counted b s m rest : ℕ) : Type 0 where
   pub left : Left b s (Of ws counted hs) m rest
 
-pub walking_start : (ws : List ℕ) (hs counted b s : ℕ) → Walking ws hs counted b s b s
+pub walking_start : (ws : Work) (hs counted b s : ℕ) → Walking ws hs counted b s b s
 walking_start ws hs counted b s = record { left = left_start b s (Of ws counted hs) }
 
 -- a role that is counted covers what it covers
@@ -171,13 +171,13 @@ floor_under ρ s k floor lk e =
     (λ t. let none : floor ≡ 0 = e ∙ when-false (has s k) 1 0 t in omega arith)
 
 -- what is known when the walk begins: hs are the first holders, and ss the samples, that are asked for role k
-pub record WalkBegun (ws : List ℕ) (c k hs ss : ℕ) : Type 0 where
+pub record WalkBegun (ws : Work) (c k hs ss : ℕ) : Type 0 where
   pub given : PreparedFor c ws
   pub low : k < c
-  pub holders : hs ≡ entry ws down_start k ∩ set_at 2 ws first_start
-  pub samples : ss ≡ entry ws holding_start k
+  pub holders : hs ≡ entries ws.down k ∩ set_of ws.first
+  pub samples : ss ≡ entries ws.holding k
 
-module _ (ws : List ℕ) (c k hs ss : ℕ) (b : WalkBegun ws c k hs ss) where
+module _ (ws : Work) (c k hs ss : ℕ) (b : WalkBegun ws c k hs ss) where
   -- the samples and the first holders that are asked, in the tables of these roles
   module _ (ρ : Roles) (n : candidate_count ρ ≡ c) (P : Prepared ρ ws) where
     role : k < candidate_count ρ
@@ -189,7 +189,7 @@ module _ (ws : List ℕ) (c k hs ss : ℕ) (b : WalkBegun ws c k hs ss) where
         let e : ss ≡ collect P.count (λ i. has (P.found i) k) = b.samples ∙ P.samples.held k role in
         rw e (collect_iff P.count (λ i. has (P.found i) k) i)
 
-    roles : (i : ℕ) → So (has ss i) → entry ws samples_start i ≡ P.found i
+    roles : (i : ℕ) → So (has ss i) → entries ws.samples i ≡ P.found i
     roles i t = P.samples.roles i ((held i).0 t).0
 
     holders : hs ≡ down_from ρ k ∩ first_holders ρ
@@ -206,7 +206,7 @@ module _ (ws : List ℕ) (c k hs ss : ℕ) (b : WalkBegun ws c k hs ss) where
       → ((x ≤ c) × ((i : ℕ) → So (has ss i) → Of ws counted hs x i)) ↔ (x ≤ redundancy (roles_of st) counted k)
   walk_iff counted st lim n P x =
       let ρ = roles_of st in
-      let up : (g : ℕ) → So (has hs g) → entry ws up_start g ≡ up_from ρ g =
+      let up : (g : ℕ) → So (has hs g) → entries ws.up g ≡ up_from ρ g =
       λ g t. P.reach.up g ((down_from_iff ρ k g).0 ((∩-iff (down_from ρ k) (first_holders ρ) g).0 (rw (holders ρ n P) at t)).0).0 in (
         λ w.
             (redundancy_ends st lim counted k x (role ρ n P)).1 (
@@ -215,7 +215,7 @@ module _ (ws : List ℕ) (c k hs ss : ℕ) (b : WalkBegun ws c k hs ss) where
                   let s = P.samples.of_users.sample_of u ((with_roles_iff ρ u).1 (k, ku)) in
                   let there : So (has ss s.0) = (held ρ n P s.0).1 (s.1, rw s.2 ku) in
                   let tg : So (has hs g) = rw (holders ρ n P) (rw (sure_holders st u k ku) at t) in
-                  let e : entry ws samples_start s.0 ≡ roles_of_user ρ u = roles ρ n P s.0 there ∙ s.2 in
+                  let e : entries ws.samples s.0 ≡ roles_of_user ρ u = roles ρ n P s.0 there ∙ s.2 in
                   rw (e, up g tg) at (w.1 s.0 there g tg),
             ),
         λ h.
@@ -225,7 +225,7 @@ module _ (ws : List ℕ) (c k hs ss : ℕ) (b : WalkBegun ws c k hs ss) where
                   let a = (held ρ n P i).0 t in
                   let u = P.samples.of_users.user_of i a.0 in
                   let ku : So (has (roles_of_user ρ u.0) k) = rw u.2 at a.1 in
-                  let e : entry ws samples_start i ≡ roles_of_user ρ u.0 = roles ρ n P i t ∙ u.2 in
+                  let e : entries ws.samples i ≡ roles_of_user ρ u.0 = roles ρ n P i t ∙ u.2 in
                   rw (e, up g tg) (w.1 u.0 ku g (rw (sure_holders st u.0 k ku) (rw (holders ρ n P) at tg))),
             ),
       )
@@ -237,15 +237,15 @@ module _ (ws : List ℕ) (c k hs ss : ℕ) (b : WalkBegun ws c k hs ss) where
         (m ≤ c) × ((st : State) → Limits st → candidate_count (roles_of st) ≡ c → Prepared (roles_of st) ws → m ≡ redundancy (roles_of st) counted k)
 
     module _ (i floor m' : ℕ) (there : So (has rest i))
-        (told : LeastTo floor m' m hs (λ g. ones (entry ws samples_start i ∩ counted ∩ entry ws up_start g))) where
+        (told : LeastTo floor m' m hs (λ g. ones (entries ws.samples i ∩ counted ∩ entries ws.up g))) where
       asked_for : So (has ss i)
       asked_for = inv.left.within i there
 
       -- those further up than sample i
-      beyond : (d : ℕ) → d ≡ entry ws further_start i → d ≡ further b.given.2.count b.given.2.found i
+      beyond : (d : ℕ) → d ≡ entries ws.further i → d ≡ further b.given.2.count b.given.2.found i
       beyond d e = e ∙ b.given.2.beyond i ((held b.given.0 b.given.1 b.given.2 i).0 asked_for).0
 
-      pub walking_more : (d rest' : ℕ) → floor < m' → d ≡ entry ws further_start i → rest' ≡ rest ∖ d → Walking ws hs counted c ss m' rest'
+      pub walking_more : (d rest' : ℕ) → floor < m' → d ≡ entries ws.further i → rest' ≡ rest ∖ d → Walking ws hs counted c ss m' rest'
       unfolding further
       walking_more d rest' more e1 e2 =
           let P = b.given.2 in
@@ -255,11 +255,11 @@ module _ (ws : List ℕ) (c k hs ss : ℕ) (b : WalkBegun ws c k hs ss) where
                 (λ x. (λ h. (le_trans h told.bound, λ g t. le_trans h (told.least more g t)), λ h. told.above x h.0 h.1))
                 (λ x j t h.
                 let a = (collect_iff P.count (λ j. subset (P.found i) (P.found j)) j).0 (rw (beyond d e1) at t) in
-                nearer_user (entry ws up_start) counted hs (entry ws samples_start i) hs (entry ws samples_start j) x (subset_refl hs)
+                nearer_user (entries ws.up) counted hs (entries ws.samples i) hs (entries ws.samples j) x (subset_refl hs)
                 (rw (roles b.given.0 b.given.1 P i asked_for, P.samples.roles j a.0) a.1) h) e2;
           }
 
-      pub walking_fewer : (d : ℕ) → d ≡ entry ws further_start i → ones (rest ∖ d) < ones rest
+      pub walking_fewer : (d : ℕ) → d ≡ entries ws.further i → ones (rest ∖ d) < ones rest
       unfolding further
       walking_fewer d e =
           let P = b.given.2 in

@@ -1,23 +1,22 @@
 // Which role of a pass comes next.
-ghost use Rattle.std.specs.Prelude.{◌≡◌, ◌≢◌, ◌≤◌, length};
+ghost use Rattle.std.specs.Prelude.{◌≢◌, ◌≤◌};
 ghost use Rattle.sets.specs.Held.{set_of};
 ghost use Rattle.edit_order.specs.Ranking.{NextRole};
-ghost use Rattle.edit_work.specs.Work.{ranks_length};
 
+use crate::ranks::Ranks;
 use sets::{Set128, lowest_item};
 use tables::load;
 
-// The role that comes next, and its key.
+// The role that comes next, and its rank.
 #[derive(Clone, Copy)]
 pub struct Front {
     pub role: usize,
     pub rank: usize,
 }
 
-// The role of `todo` with the largest key, and of several such the lowest. No key is above `top`: the key of the role before, so that a pass walks
+// The role of `todo` of the highest rank, and of several such the lowest. No rank is above `top`: the rank of the role before, so that a pass walks
 // down the ranks once.
-pub fn foremost(ranks: &[u64], todo: Set128, top: usize) -> Front
-    requires ranks_len { length ranks.now ≡ ranks_length }
+pub fn foremost(ranks: &Ranks, todo: Set128, top: usize) -> Front
     requires todo_nonzero { set_of todo ≢ 0 }
     requires top_bound { top ≤ 128 }
     ensures { NextRole ranks.now (set_of todo) top result.role result.rank }

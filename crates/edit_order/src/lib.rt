@@ -7,5 +7,5 @@ mod redundancy;
 mod worklist;
 
 pub use front::{Front, foremost};
-pub use ranks::fill_ranks;
+pub use ranks::{Ranks, fill_ranks};
 pub use worklist::strikable_roles;

@@ -1,16 +1,17 @@
 // The roles that an elimination begins with.
-ghost use Rattle.std.specs.Prelude.{◌≡◌, ◌<◌, length};
+ghost use Rattle.std.specs.Prelude.{◌≡◌, ◌<◌};
 ghost use Rattle.sets.specs.Held.{set_of};
 ghost use Rattle.sets.specs.Sets.{◌∪◌, single};
 ghost use Rattle.sets.specs.Truth.{when◌then◌else◌};
 ghost use Rattle.model.specs.Coverage.{strikables};
-ghost use Rattle.model.specs.Record.{record_length, built, Limits};
+ghost use Rattle.model.specs.Record.{built, Limits};
 ghost use Rattle.model.specs.State.{State, roles_of};
-ghost use Rattle.indexes.specs.Index.{index_length, Indexed, AllHolders};
+ghost use Rattle.indexes.specs.Index.{Indexed, AllHolders};
 
 use edit_test::removable;
+use indexes::Index;
 use sets::Set128;
-use tables::{STANDING, load};
+use tables::{Record, STANDING, load};
 
 // The set with k in it where `strikable` says so.
 fn with_strikable(found: Set128, k: usize, strikable: bool) -> Set128
@@ -24,9 +25,7 @@ fn with_strikable(found: Set128, k: usize, strikable: bool) -> Set128
 }
 
 // The strikable roles of a record. Only a standing role can be strikable, so the others are not asked about.
-pub fn strikable_roles(rec: &[u64], index: &[u64]) -> Set128
-    requires rec_len { length rec.now ≡ record_length }
-    requires index_len { length index.now ≡ index_length }
+pub fn strikable_roles(rec: &Record, index: &Index) -> Set128
     ensures { (st : State) → Limits st → rec.now ≡ built st → Indexed (roles_of st) index.now → AllHolders (roles_of st) index.now → set_of result ≡ strikables (roles_of st) st.standing }
 {
     let mut found = Set128::empty();

@@ -18,6 +18,7 @@ use Rattle.model.specs.Record.{state_of}
 use Rattle.model.specs.State.{State, roles_of, standing_now}
 use Rattle.model.proofs.Steps.{standing_now_lem}
 use Rattle.edit_trials.specs.declared.progress.Progress.{Progress}
+use Rattle.indexes.specs.declared.index.Index.{Index}
 use Rattle.rows.specs.Linked.{Ready}
 use Rattle.edit_trials.specs.Trying.{run_at, SameCrewList, InStep}
 use Rattle.edit_trials.proofs.Runs.{roles_count, ready_few, crew_same, crew_trans, crew_roles, crew-count}
@@ -113,13 +114,13 @@ passes_none ρ w r = refl
 
 -- ---- the pass as the code walks it: mid and g are what the candidates below k have left
 
-abbrev pub Passing : (ws index : List ℕ) (w : Weights) (at : Progress) (mid seniors : List ℕ) (g : Progress) (k : ℕ) → Type 0
+abbrev pub Passing : (ws : List ℕ) (index : Index) (w : Weights) (at : Progress) (mid seniors : List ℕ) (g : Progress) (k : ℕ) → Type 0
 Passing ws index w at mid seniors g k = Stepped (review_to (roles_of (state_of ws)) w k) ws at mid index seniors g
 
-pub passing_start : (ws index seniors : List ℕ) (w : Weights) (at : Progress) → InStep ws index seniors at → Passing ws index w at ws seniors at 0
+pub passing_start : (ws : List ℕ) (index : Index) (seniors : List ℕ) (w : Weights) (at : Progress) → InStep ws index seniors at → Passing ws index w at ws seniors at 0
 passing_start ws index seniors w at g = record { in_step = g; same_crew = crew_same ws; run = pass-none ws at w }
 
-module _ (ws index : List ℕ) (w : Weights) (at : Progress) (mid seniors : List ℕ) (g : Progress) (k : ℕ) (p : Passing ws index w at mid seniors g k) where
+module _ (ws : List ℕ) (index : Index) (w : Weights) (at : Progress) (mid seniors : List ℕ) (g : Progress) (k : ℕ) (p : Passing ws index w at mid seniors g k) where
   pub passing_more : (after seniors' : List ℕ) (r : Progress) → Stepped (try_restore (roles_of (state_of mid)) w k) mid g after index seniors' r
       → Passing ws index w at after seniors' r (k + 1)
   passing_more after seniors' r t =
@@ -147,14 +148,14 @@ pub begun : (ws : List ℕ) (g : Progress) (w : Weights) → g.quality ≡ quali
 unfolding run_at begin
 begun ws g w eq ec ee = λ i. record { standing = (state_of ws).standing; worklist = 0; reference = eq i; changed = ec i; examined = ee i }
 
-pub record Running (ws index : List ℕ) (w : Weights) (mid seniors : List ℕ) (g : Progress) (left : ℕ) : Type 0 where
+pub record Running (ws : List ℕ) (index : Index) (w : Weights) (mid seniors : List ℕ) (g : Progress) (left : ℕ) : Type 0 where
   pub in_step : InStep mid index seniors g
   pub same_crew : SameCrewList (state_of ws) mid
   pub rest : reviewed (roles_of (state_of ws)) w (state_of ws).standing ≡ review_passes (roles_of (state_of ws)) w left (run_at mid g 0)
   pub changed : g.changed + 128 * left ≤ 16512
   pub examined : g.examined + 128 * left ≤ 16512
 
-pub running_start : (ws index seniors : List ℕ) (w : Weights) (g : Progress) (left : ℕ) → InStep ws index seniors g → g.quality ≡ quality (roles_of (state_of ws)) w (state_of ws).standing
+pub running_start : (ws : List ℕ) (index : Index) (seniors : List ℕ) (w : Weights) (g : Progress) (left : ℕ) → InStep ws index seniors g → g.quality ≡ quality (roles_of (state_of ws)) w (state_of ws).standing
     → g.changed ≡ 0 → g.examined ≡ 0 → left ≡ get_or ws 2 0 + 1 → Running ws index w ws seniors g left
 unfolding reviewed
 running_start ws index seniors w g left in_step eq ec ee el =
@@ -169,11 +170,11 @@ running_start ws index seniors w g left in_step eq ec ee el =
     }
 
 -- what a review leaves
-abbrev pub ReviewEnded : (ws index : List ℕ) (w : Weights) (after seniors : List ℕ) (r : Progress) → Type 0
+abbrev pub ReviewEnded : (ws : List ℕ) (index : Index) (w : Weights) (after seniors : List ℕ) (r : Progress) → Type 0
 ReviewEnded ws index w after seniors r =
     Ready (state_of after) after index seniors × (SameCrewList (state_of ws) after × (run_at after r 0 ≡ reviewed (roles_of (state_of ws)) w (state_of ws).standing))
 
-module _ (ws index : List ℕ) (w : Weights) (mid seniors : List ℕ) (g : Progress) (left : ℕ) (p : Running ws index w mid seniors g left) (some : 0 < left)
+module _ (ws : List ℕ) (index : Index) (w : Weights) (mid seniors : List ℕ) (g : Progress) (left : ℕ) (p : Running ws index w mid seniors g left) (some : 0 < left)
     (after seniors' : List ℕ) (r : Progress) (t : Stepped (review_to (roles_of (state_of mid)) w (get_or mid 2 0)) mid g after index seniors' r) where
   next_run : run_at after r 0 ≡ review_to (roles_of (state_of ws)) w (candidate_count (roles_of (state_of ws))) (run_at mid g 0)
   next_run = rw (sym (roles_count mid index seniors p.in_step.ready), crew_roles (state_of ws) mid p.same_crew) at (t.run 0)
@@ -208,6 +209,6 @@ module _ (ws index : List ℕ) (w : Weights) (mid seniors : List ℕ) (g : Progr
         examined = omega arith;
       }
 
-pub running_out : (ws index : List ℕ) (w : Weights) (mid seniors : List ℕ) (g : Progress) (left : ℕ) → Running ws index w mid seniors g left → left ≡ 0 → ReviewEnded ws index w mid seniors g
+pub running_out : (ws : List ℕ) (index : Index) (w : Weights) (mid seniors : List ℕ) (g : Progress) (left : ℕ) → Running ws index w mid seniors g left → left ≡ 0 → ReviewEnded ws index w mid seniors g
 running_out ws index w mid seniors g left p e =
     (p.in_step.ready, (p.same_crew, sym (p.rest ∙ ap (λ (n : ℕ). review_passes (roles_of (state_of ws)) w n (run_at mid g 0)) e ∙ passes_none (roles_of (state_of ws)) w (run_at mid g 0))))

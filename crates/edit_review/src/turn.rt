@@ -1,34 +1,29 @@
-ghost use Rattle.std.specs.Prelude.{◌≡◌, ◌≤◌, ◌<◌, length, get_or};
-ghost use Rattle.std.proofs.Math.Bool.{So};
+ghost use Rattle.std.specs.Prelude.{◌≤◌, ◌<◌, get_or};
 ghost use Rattle.model.specs.Machine.{try_restore};
-ghost use Rattle.model.specs.Quality.{weights_allowed};
-ghost use Rattle.model.specs.Record.{record_length, state_of};
+ghost use Rattle.model.specs.Record.{state_of};
 ghost use Rattle.model.specs.State.{roles_of};
 ghost use Rattle.quality.specs.Numbers.{weights_in};
-ghost use Rattle.indexes.specs.Index.{index_length};
 ghost use Rattle.edit_trials.specs.Trying.{InStep};
 ghost use Rattle.edit_review.specs.Reviewing.{Stepped, turn_room};
-ghost use Rattle.tables.specs.Tables.{table128_length};
 
 use edit_rows::put_back_at;
 use edit_trials::{Progress, if_restored};
+use indexes::Index;
 use quality::{Weights, weigh};
-use tables::{STANDING, load};
+use tables::{Record, STANDING, Table128, load};
 
 // Takes up the candidate k, where it is absent: it is put back where the quality would then be strictly smaller, and else nothing is written.
 pub fn try_restore(
-    rec: &mut [u64],
-    index: &[u64],
-    seniors: &mut [u64],
+    rec: &mut Record,
+    index: &Index,
+    seniors: &mut Table128,
     w: Weights,
     k: usize,
     at: Progress,
 ) -> Progress
     requires in_step { InStep rec.old index.now seniors.old at }
-    requires so { So (weights_allowed (weights_in w)) }
     requires k_bound { k < get_or rec.old 2 0 }
     requires changed_le_turn_room { (at.changed ≤ turn_room) × (at.examined ≤ turn_room) }
-    requires rec_len { (length rec.old ≡ record_length) × (length index.now ≡ index_length) × (length seniors.old ≡ table128_length) }
     ensures { Stepped (try_restore (roles_of (state_of rec.old)) (weights_in w) k) rec.old at rec.new index.now seniors.new result }
 {
     if load::<2>(rec, STANDING).contains(k) {

@@ -27,6 +27,7 @@ use Rattle.tables.specs.Tables.{HoldsSets}
 use Rattle.tables.proofs.Stores.{stored_after}
 use Rattle.hierarchy.specs.Tables.{Numbered, immediate_seniors}
 use Rattle.hierarchy.proofs.Reading.{read_sets, read_permissions_of, read_members_of, read_juniors_of}
+use Rattle.indexes.specs.declared.index.Index.{Index}
 use Rattle.indexes.specs.Index.{LowerRoles, Indexed}
 use Rattle.indexes.proofs.Sources.{numbered, narrow}
 use Rattle.rows.specs.Linked.{Linked, Ready}
@@ -129,12 +130,12 @@ put_standing_lem st lim ws e k small r R er e_r =
 -- ---- the standing set, the upper rows, the lower rows
 
 -- what the change of a record to a standing set promises
-abbrev Changed : (ws index seniors after seniors' : List ℕ) (R x y : ℕ) → Type 0
+abbrev Changed : (ws : List ℕ) (index : Index) (seniors after seniors' : List ℕ) (R x y : ℕ) → Type 0
 Changed ws index seniors after seniors' R x y =
     (st : State) → Ready st ws index seniors → R < 2 ^ candidate_count (roles_of st) → Differ (roles_of st) st.standing R x y
     → Ready (standing_now st R) after index seniors'
 
-pub changed : (R x y : ℕ) (ws index seniors first second seniors' third : List ℕ) → first ≡ put_at ws 4 (words_of 2 R)
+pub changed : (R x y : ℕ) (ws : List ℕ) (index : Index) (seniors first second seniors' third : List ℕ) → first ≡ put_at ws 4 (words_of 2 R)
     → ((old : RoleRows) (st : State) (t : ℕ) → Target st R index → Partway old st x x t first → Linked first seniors → Partway old st 0 0 t second × Linked second seniors')
     → ((old : RoleRows) (st : State) (p : ℕ) → Target st R index → Linked second seniors' → Partway old st 0 p y second → Partway old st 0 p 0 third × Linked third seniors')
     → Changed ws index seniors third seniors' R x y
@@ -151,7 +152,7 @@ changed R x y ws index seniors first second seniors' third ef uppers lowers st r
 
 -- ---- the two changes
 
-module _ (st : State) (ws index seniors after seniors' : List ℕ) (ready : Ready st ws index seniors) (k : ℕ) (small : k < 128) where
+module _ (st : State) (ws : List ℕ) (index : Index) (seniors after seniors' : List ℕ) (ready : Ready st ws index seniors) (k : ℕ) (small : k < 128) where
   pub taken_at_lem : (r R s x t z y : ℕ) → r ≡ set_at 2 ws 4 → R ≡ r ∖ single k → x ≡ (when ltb k 128 then s ∪ single k else s)
       → z ≡ (when eqb (set_at 2 ws (members_start + 2 * k)) 0 then 0 else t) → y ≡ (when ltb k 128 then z ∪ single k else z)
       → Changed ws index seniors after seniors' R x y → So (has st.standing k) → Neighbours (roles_of st) st.standing k s t
@@ -180,7 +181,7 @@ module _ (st : State) (ws index seniors after seniors' : List ℕ) (ready : Read
       rw new at (change st ready o.below (rw less at d))
 
 -- the neighbours of a role that is put back, found from the index
-module _ (st : State) (lim : Limits st) (ws index : List ℕ) (e : ws ≡ built st) (ix : Indexed (roles_of st) index) (k : ℕ) (small : k < 128)
+module _ (st : State) (lim : Limits st) (ws : List ℕ) (index : Index) (e : ws ≡ built st) (ix : Indexed (roles_of st) index) (k : ℕ) (small : k < 128)
     (r R : ℕ) (er : r ≡ set_at 2 ws 4) (e_r : R ≡ (when ltb k 128 then r ∪ single k else r)) (lk : k < candidate_count (roles_of st)) where
   put_below : R < 2 ^ candidate_count (roles_of st)
   put_below =

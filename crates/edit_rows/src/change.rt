@@ -1,37 +1,32 @@
 // A role taken out, and put back.
-ghost use Rattle.std.specs.Prelude.{◌≡◌, false, ◌+◌, ◌*◌, ◌^◌, ◌<◌, eqb, length};
+ghost use Rattle.std.specs.Prelude.{◌≡◌, false, ◌+◌, ◌*◌, ◌^◌, ◌<◌, eqb};
 ghost use Rattle.std.proofs.Math.Bool.{So};
 ghost use Rattle.sets.specs.Held.{set_of};
 ghost use Rattle.sets.specs.Sets.{has, ◌∪◌, ◌∖◌, single};
 ghost use Rattle.sets.specs.Truth.{when◌then◌else◌};
 ghost use Rattle.model.specs.Lists.{set_at};
 ghost use Rattle.model.specs.Hierarchy.{candidate_count};
-ghost use Rattle.model.specs.Record.{record_length, members_start};
+ghost use Rattle.model.specs.Record.{members_start};
 ghost use Rattle.model.specs.State.{State, roles_of, standing_now};
-ghost use Rattle.indexes.specs.Index.{index_length};
 ghost use Rattle.rows.specs.Linked.{Ready};
 ghost use Rattle.rows.specs.Partway.{Differ};
 ghost use Rattle.edit_rows.specs.Neighbours.{Neighbours};
-ghost use Rattle.tables.specs.Tables.{table128_length};
 
 use hierarchy::{juniors_of, seniors_of};
-use indexes::{LOWER, ROLES};
+use indexes::Index;
 use rows::{relink_uppers, rewrite_lowers};
 use sets::Set128;
-use tables::{JUNIORS, MEMBERS, STANDING, load, store};
+use tables::{JUNIORS, MEMBERS, Record, STANDING, Table128, load, store};
 
 // Brings the record to the standing set `standing`, where upper rows differ at most for the roles in `uppers`, and lower rows for those in `lowers`.
 fn change_standing(
-    rec: &mut [u64],
-    index: &[u64],
-    seniors: &mut [u64],
+    rec: &mut Record,
+    index: &Index,
+    seniors: &mut Table128,
     standing: Set128,
     uppers: Set128,
     lowers: Set128,
 )
-    requires rec_len { length rec.old ≡ record_length }
-    requires index_len { length index.now ≡ index_length }
-    requires seniors_len { length seniors.old ≡ table128_length }
     ensures { (st : State) → Ready st rec.old index.now seniors.old → set_of standing < 2 ^ candidate_count (roles_of st) → Differ (roles_of st) st.standing (set_of standing) (set_of uppers) (set_of lowers) → Ready (standing_now st (set_of standing)) rec.new index.now seniors.new }
 {
     store(rec, STANDING, standing);
@@ -41,8 +36,7 @@ fn change_standing(
 
 // Of the juniors of the standing role k those whose direct members a strike of k can alter. They get nothing but its own direct members, so there
 // are none where it has none.
-fn juniors_to_rewrite(rec: &[u64], k: usize, juniors: Set128) -> Set128
-    requires rec_len { length rec.now ≡ record_length }
+fn juniors_to_rewrite(rec: &Record, k: usize, juniors: Set128) -> Set128
     requires k_bound { k < 128 }
     ensures { set_of result ≡ (when eqb (set_at 2 rec.now (members_start + 2 * k)) 0 then 0 else set_of juniors) }
 {
@@ -54,16 +48,13 @@ fn juniors_to_rewrite(rec: &[u64], k: usize, juniors: Set128) -> Set128
 
 // Takes the standing role k out, whose immediate seniors are `above`, and its immediate juniors `below`.
 pub fn take_out_at(
-    rec: &mut [u64],
-    index: &[u64],
-    seniors: &mut [u64],
+    rec: &mut Record,
+    index: &Index,
+    seniors: &mut Table128,
     k: usize,
     above: Set128,
     below: Set128,
 )
-    requires rec_len { length rec.old ≡ record_length }
-    requires index_len { length index.now ≡ index_length }
-    requires seniors_len { length seniors.old ≡ table128_length }
     requires k_bound { k < 128 }
     ensures { (st : State) → Ready st rec.old index.now seniors.old → So (has st.standing k) → Neighbours (roles_of st) st.standing k (set_of above) (set_of below) → Ready (standing_now st (st.standing ∖ single k)) rec.new index.now seniors.new }
 {
@@ -73,10 +64,7 @@ pub fn take_out_at(
 }
 
 // Takes the standing role k out. Its neighbours are those of the building in which it stands, so they are read before anything is written.
-pub fn take_out(rec: &mut [u64], index: &[u64], seniors: &mut [u64], k: usize)
-    requires rec_len { length rec.old ≡ record_length }
-    requires index_len { length index.now ≡ index_length }
-    requires seniors_len { length seniors.old ≡ table128_length }
+pub fn take_out(rec: &mut Record, index: &Index, seniors: &mut Table128, k: usize)
     requires k_bound { k < 128 }
     ensures { (st : State) → Ready st rec.old index.now seniors.old → So (has st.standing k) → Ready (standing_now st (st.standing ∖ single k)) rec.new index.now seniors.new }
 {
@@ -87,16 +75,13 @@ pub fn take_out(rec: &mut [u64], index: &[u64], seniors: &mut [u64], k: usize)
 
 // Puts the absent candidate k back, whose immediate seniors will be `above`, and its immediate juniors `below`.
 pub fn put_back_at(
-    rec: &mut [u64],
-    index: &[u64],
-    seniors: &mut [u64],
+    rec: &mut Record,
+    index: &Index,
+    seniors: &mut Table128,
     k: usize,
     above: Set128,
     below: Set128,
 )
-    requires rec_len { length rec.old ≡ record_length }
-    requires index_len { length index.now ≡ index_length }
-    requires seniors_len { length seniors.old ≡ table128_length }
     requires k_bound { k < 128 }
     ensures { (st : State) → Ready st rec.old index.now seniors.old → k < candidate_count (roles_of st) → has st.standing k ≡ false → Neighbours (roles_of st) (st.standing ∪ single k) k (set_of above) (set_of below) → Ready (standing_now st (st.standing ∪ single k)) rec.new index.now seniors.new }
 {
@@ -105,16 +90,13 @@ pub fn put_back_at(
 }
 
 // Puts the absent candidate k back. Its neighbours are those of the building in which it stands again, so they are computed for that.
-pub fn put_back(rec: &mut [u64], index: &[u64], seniors: &mut [u64], k: usize)
-    requires rec_len { length rec.old ≡ record_length }
-    requires index_len { length index.now ≡ index_length }
-    requires seniors_len { length seniors.old ≡ table128_length }
+pub fn put_back(rec: &mut Record, index: &Index, seniors: &mut Table128, k: usize)
     requires k_bound { k < 128 }
     ensures { (st : State) → Ready st rec.old index.now seniors.old → k < candidate_count (roles_of st) → has st.standing k ≡ false → Ready (standing_now st (st.standing ∪ single k)) rec.new index.now seniors.new }
 {
     let standing = load(rec, STANDING);
     let more = standing.insert(k);
-    let above = seniors_of(&index[LOWER..ROLES], more, k);
-    let below = juniors_of(&index[LOWER..ROLES], more, k);
+    let above = seniors_of(&index.lower, more, k);
+    let below = juniors_of(&index.lower, more, k);
     put_back_at(rec, index, seniors, k, above, below);
 }

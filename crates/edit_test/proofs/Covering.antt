@@ -1,18 +1,16 @@
 -- What the walk over users and permissions tells of one grant and of one user; and that it decides what is strikable.
 -- Assumes nothing.
-use mathlib.Core.Path.{◌≡◌, refl, sym, ◌∙◌, ap}
+use mathlib.Core.Path.{◌≡◌, refl, ◌∙◌, ap}
 use mathlib.Core.Bool.{Bool, true, false, So, not}
 use mathlib.Core.Logic.{◌↔◌}
 use mathlib.Core.List.{List}
 use Prim.Native.Nat.{ℕ, ◌+◌, ◌*◌, ◌^◌, ◌<◌}
-use native.Mathlib.Nat.{lt_of_lt_of_le}
-use native.Mathlib.Omega.{arith}
 use lib.Dec.{eqb}
 use lib.ListN.{get_or}
 use Rattle.sets.specs.Truth.{◌implies◌, isnt}
 use Rattle.sets.specs.Sets.{has, ◌∩◌, ◌∖◌, single}
 use Rattle.sets.proofs.Truth.{same_test, So-not, isnt_iff, implies_iff, eqb_iff}
-use Rattle.sets.proofs.Members.{has-zero, item_below, empty_of}
+use Rattle.sets.proofs.Members.{has-zero, empty_of}
 use Rattle.sets.proofs.Order.{∩-iff, ∩-lt, ∩-comm}
 use Rattle.model.specs.Lists.{set_at}
 use Rattle.model.specs.Hierarchy.{Roles, candidate_count, direct_members, direct_permissions}
@@ -22,8 +20,7 @@ use Rattle.model.specs.Indexes.{roles_of_user, roles_of_permission}
 use Rattle.model.proofs.Reading.{Ordered, member_iff, permission_iff}
 use Rattle.model.proofs.Spared.{strikable_direct}
 use Rattle.model.proofs.Shortcuts.{covered_index}
-use Rattle.tables.proofs.Parts.{set_at_part}
-use Rattle.indexes.specs.Index.{roles_start, holders_start}
+use Rattle.indexes.specs.declared.index.Index.{Index}
 use Rattle.edit_test.specs.Covering.{each, user_covered, grants_covered, Asked}
 use Rattle.edit_test.proofs.Walking.{each_iff}
 
@@ -62,7 +59,7 @@ isnt_twice false = refl
 
 -- ---- one user. `asked` are the permissions of ps that u has, `own` are the roles of s that u has
 
-module _ (ws index : List ℕ) (ps s u : ℕ) (ρ : Roles) (a : Asked ρ ws index ps) (lu : u < ρ.users) where
+module _ (ws : List ℕ) (index : Index) (ps s u : ℕ) (ρ : Roles) (a : Asked ρ ws index ps) (lu : u < ρ.users) where
   module _ (row asked : ℕ) (er : row ≡ set_at 4 ws (crew_start + 4 * u)) (ea : asked ≡ ps ∩ row) where
     granted : row ≡ get_or ρ.granted u 0
     granted = er ∙ a.crew_rows u lu
@@ -84,15 +81,13 @@ module _ (ws index : List ℕ) (ps s u : ℕ) (ρ : Roles) (a : Asked ρ ws inde
         (implies_iff (grant ρ u p) (covered ρ s u p)).0 ((each_iff ρ.permissions ps (λ p. grant ρ u p implies covered ρ s u p)).0 h p l b.0) (rw granted at b.1)))
 
     -- one of u's roles holds a permission that is asked for where the grant is covered
-    pub held_covered : (all own p : ℕ) (t : Bool) → all ≡ set_at 2 index (roles_start + 2 * u) → own ≡ all ∩ s → So (has asked p)
-        → t ≡ isnt (eqb (own ∩ set_at 2 index (holders_start + 2 * p)) 0) → t ≡ covered ρ s u p
+    pub held_covered : (all own p : ℕ) (t : Bool) → all ≡ set_at 2 index.roles (2 * u) → own ≡ all ∩ s → So (has asked p)
+        → t ≡ isnt (eqb (own ∩ set_at 2 index.holders (2 * p)) 0) → t ≡ covered ρ s u p
     held_covered all own p t el eo h et =
         let there = ((∩-iff ps row p).0 (rw ea at h)).0 in
-        let few = a.few_users in
-        let lp = lt_of_lt_of_le (item_below ρ.permissions ps p a.permissions_below there) a.few_permissions in
-        let held = set_at 2 index (holders_start + 2 * p) in
-        let own-roles : all ≡ roles_of_user ρ u = el ∙ sym (set_at_part 2 roles_start 256 index (2 * u) (omega arith)) ∙ a.user_roles u lu in
-        let holding : held ≡ roles_of_permission ρ p = sym (set_at_part 2 holders_start 512 index (2 * p) (omega arith)) ∙ a.permission_roles p there in
+        let held = set_at 2 index.holders (2 * p) in
+        let own-roles : all ≡ roles_of_user ρ u = el ∙ a.user_roles u lu in
+        let holding : held ≡ roles_of_permission ρ p = a.permission_roles p there in
         et ∙ ap isnt (bare_test ρ s u p own held (eo ∙ ap (λ (x : ℕ). x ∩ s) own-roles) holding) ∙ isnt_twice (covered ρ s u p)
 
 -- ---- what it decides

@@ -18,13 +18,14 @@ use Rattle.model.proofs.Building.{stands_below}
 use Rattle.model.proofs.Record.{direct_permissions_lt, direct_members_lt, read_row, read_standing}
 use Rattle.model.proofs.Steps.{limits_ordered}
 use Rattle.hierarchy.proofs.Reading.{read_permissions_of, read_members_of}
+use Rattle.indexes.specs.declared.index.Index.{Index}
 use Rattle.indexes.specs.Index.{Indexed, HoldersFor}
 use Rattle.edit_test.specs.Covering.{grants_covered, Asked}
 use Rattle.edit_test.proofs.Covering.{covered-strikable}
 
 module _ (st : State) (ws : List ℕ) (lim : Limits st) (e : ws ≡ built st) where
   -- the walk may ask for these permissions
-  pub asked : (index : List ℕ) (ps : ℕ) → ps < 2 ^ st.permissions → Indexed (roles_of st) index → HoldersFor (roles_of st) ps index → Asked (roles_of st) ws index ps
+  pub asked : (index : Index) (ps : ℕ) → ps < 2 ^ st.permissions → Indexed (roles_of st) index → HoldersFor (roles_of st) ps index → Asked (roles_of st) ws index ps
   unfolding roles_of
   asked index ps b ix held =
       record {
@@ -40,7 +41,7 @@ module _ (st : State) (ws : List ℕ) (lim : Limits st) (e : ws ≡ built st) wh
   permissions_told k ps small ep = ep ∙ ap (λ (x : List ℕ). set_at 4 x (permissions_start + 4 * k)) e ∙ read_permissions_of st lim k small
 
   -- over a role's direct members and permissions it says whether the role is strikable
-  pub told_strikable : (index : List ℕ) (k x us ps : ℕ) (t : Bool) → k < 128 → x ≡ (when ltb k 128 then single k else 0)
+  pub told_strikable : (index : Index) (k x us ps : ℕ) (t : Bool) → k < 128 → x ≡ (when ltb k 128 then single k else 0)
       → us ≡ set_at 2 ws (members_start + 2 * k) → ps ≡ set_at 4 ws (permissions_start + 4 * k)
       → ((ρ : Roles) → Asked ρ ws index ps → us < 2 ^ ρ.users → t ≡ grants_covered ρ (set_at 2 ws 4 ∖ x) us ps)
       → Indexed (roles_of st) index → HoldersFor (roles_of st) (direct_permissions (roles_of st) st.standing k) index → So (has st.standing k)

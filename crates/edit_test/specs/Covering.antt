@@ -7,6 +7,7 @@ use Rattle.model.specs.Lists.{set_at}
 use Rattle.model.specs.Hierarchy.{Roles}
 use Rattle.model.specs.Coverage.{grant, covered}
 use Rattle.model.specs.Record.{crew_start}
+use Rattle.indexes.specs.declared.index.Index.{Index}
 use Rattle.indexes.specs.Index.{UserRoles, HoldersFor}
 
 -- every item of s below n passes f
@@ -21,7 +22,7 @@ unfoldable pub grants_covered : Roles → ℕ → ℕ → ℕ → Bool
 grants_covered ρ s us ps = each ρ.users us (user_covered ρ s ps)
 
 -- the record has the crew rows; the index the roles of each user, and the roles that hold each permission of ps
-pub record Asked (ρ : Roles) (ws index : List ℕ) (ps : ℕ) : Type 0 where
+pub record Asked (ρ : Roles) (ws : List ℕ) (index : Index) (ps : ℕ) : Type 0 where
   pub few_users : ρ.users ≤ 128
   pub few_permissions : ρ.permissions ≤ 256
   pub permissions_below : ps < 2 ^ ρ.permissions

@@ -22,7 +22,7 @@ use Rattle.model.proofs.Bounds.{Small, counts_small}
 use Rattle.model.proofs.Steps.{limits_ordered}
 use Rattle.hierarchy.specs.Tables.{less_all}
 use Rattle.hierarchy.proofs.Sieving.{less_all_iff}
-use Rattle.indexes.specs.Index.{lower_start, users_start}
+use Rattle.indexes.specs.declared.index.Index.{Index}
 use Rattle.edit_rows.specs.Neighbours.{Neighbours}
 use Rattle.quality.specs.declared.counts.Counts.{Counts}
 use Rattle.quality.specs.Numbers.{counts_in, Few}
@@ -99,7 +99,7 @@ counts_are : (q : Counts) (m : model.Counts) → q.roles ≡ m.roles → q.membe
 unfolding counts_in
 counts_are q m r u p l i = record { roles = r i; members = u i; permissions = p i; links = l i }
 
-pub lost_all : (q : Counts) (ws index : List ℕ) (k s t held own : ℕ) → held ≡ set_at 2 index (users_start + 2 * k) → own ≡ set_at 4 ws (sets_start + 4 * k)
+pub lost_all : (q : Counts) (ws : List ℕ) (index : Index) (k s t held own : ℕ) → held ≡ set_at 2 index.users (2 * k) → own ≡ set_at 4 ws (sets_start + 4 * k)
     → q.roles ≡ 0 → q.members ≡ shared 2 (take 256 (drop members_start ws)) held t → q.permissions ≡ shared 4 (take 512 (drop permissions_start ws)) own s
     → q.links ≡ shared 2 (take 256 (drop juniors_start ws)) t s → counts_in q ≡ lost_at ws index k s t
 unfolding lost_at
@@ -107,13 +107,13 @@ lost_all q ws index k s t held own eh eo er em ep el =
     counts_are q (lost_at ws index k s t) er (em ∙ ap (λ (x : ℕ). shared 2 (take 256 (drop members_start ws)) x t) eh)
     (ep ∙ ap (λ (x : ℕ). shared 4 (take 512 (drop permissions_start ws)) x s) eo) el
 
-pub taken_counts : (q : Counts) (ws index seniors : List ℕ) (k s t us ps : ℕ) → us ≡ set_at 2 ws (members_start + 2 * k) → ps ≡ set_at 4 ws (permissions_start + 4 * k)
-    → q.roles ≡ 0 → q.members ≡ taken_over 2 (take 256 (drop users_start index)) us seniors k t
+pub taken_counts : (q : Counts) (ws : List ℕ) (index : Index) (seniors : List ℕ) (k s t us ps : ℕ) → us ≡ set_at 2 ws (members_start + 2 * k) → ps ≡ set_at 4 ws (permissions_start + 4 * k)
+    → q.roles ≡ 0 → q.members ≡ taken_over 2 index.users us seniors k t
     → q.permissions ≡ taken_over 4 (take 512 (drop sets_start ws)) ps (take 256 (drop juniors_start ws)) k s
-    → q.links ≡ taken_over 2 (take 256 (drop lower_start index)) t (take 256 (drop juniors_start ws)) k s → counts_in q ≡ taken_at ws index seniors k s t
+    → q.links ≡ taken_over 2 index.lower t (take 256 (drop juniors_start ws)) k s → counts_in q ≡ taken_at ws index seniors k s t
 unfolding taken_at
 taken_counts q ws index seniors k s t us ps eu ep er em eq el =
-    counts_are q (taken_at ws index seniors k s t) er (em ∙ ap (λ (x : ℕ). taken_over 2 (take 256 (drop users_start index)) x seniors k t) eu)
+    counts_are q (taken_at ws index seniors k s t) er (em ∙ ap (λ (x : ℕ). taken_over 2 index.users x seniors k t) eu)
     (eq ∙ ap (λ (x : ℕ). taken_over 4 (take 512 (drop sets_start ws)) x (take 256 (drop juniors_start ws)) k s) ep) el
 
 pub role_all : (q : Counts) (us ps s t : ℕ) → q.roles ≡ 1 → q.members ≡ ones us → q.permissions ≡ ones ps → q.links ≡ ones t + ones s → counts_in q ≡ role_counts us ps s t

@@ -28,7 +28,7 @@ use Rattle.tables.specs.Tables.{HoldsSets}
 use Rattle.tables.proofs.Parts.{set_at_part}
 use Rattle.hierarchy.specs.Tables.{less_all, immediate_seniors}
 use Rattle.hierarchy.proofs.Sieving.{less_all_iff}
-use Rattle.indexes.specs.Index.{lower_start, users_start}
+use Rattle.indexes.specs.declared.index.Index.{Index}
 use Rattle.indexes.proofs.Sources.{narrow}
 use Rattle.rows.specs.Linked.{Ready}
 use Rattle.rows.proofs.Linking.{seniors_told}
@@ -64,7 +64,7 @@ less_same w table own js js' same =
     (none_same 128 (λ j. has js j and has (set_at w table (w * j)) p) (λ j. has js' j and has (set_at w table (w * j)) p)
     (λ j lj. ap (λ (t : Bool). t and has (set_at w table (w * j)) p) (same j lj))))
 
-module _ (st : State) (ws index seniors : List ℕ) (ready : Ready st ws index seniors) (k : ℕ) (stands : So (has st.standing k)) where
+module _ (st : State) (ws : List ℕ) (index : Index) (seniors : List ℕ) (ready : Ready st ws index seniors) (k : ℕ) (stands : So (has st.standing k)) where
   abbrev ρ : Roles
   ρ = roles_of st
 
@@ -134,20 +134,19 @@ module _ (st : State) (ws index seniors : List ℕ) (ready : Ready st ws index s
         few (sets_read st ready.limits ws ready.afresh) others_below
         (λ p t. lt_of_lt_of_le ((permission_iff ρ Q k p).0 t).0 (narrow st ready.limits).few_permissions) (permission_taken ρ Q ordered k stands i h)
 
-    links_row : less_all 2 (take 256 (drop lower_start index)) (immediate_juniors (roles_of st) st.standing k) (others (take 256 (drop juniors_start ws)) k i)
+    links_row : less_all 2 index.lower (immediate_juniors (roles_of st) st.standing k) (others (take 256 (drop juniors_start ws)) k i)
         ≡ immediate_juniors (roles_of st) (st.standing ∖ single k) i ∩ immediate_juniors (roles_of st) st.standing k
     links_row =
-        ap (less_all 2 (take 256 (drop lower_start index)) (immediate_juniors ρ Q k)) (juniors_but i l)
-        ∙ left_over 2 c (take 256 (drop lower_start index)) (lower ρ) (immediate_juniors ρ Q k) (immediate_juniors ρ Q i ∖ single k) (immediate_juniors ρ (Q ∖ single k) i ∩ immediate_juniors ρ Q k)
+        ap (less_all 2 index.lower (immediate_juniors ρ Q k)) (juniors_but i l)
+        ∙ left_over 2 c index.lower (lower ρ) (immediate_juniors ρ Q k) (immediate_juniors ρ Q i ∖ single k) (immediate_juniors ρ (Q ∖ single k) i ∩ immediate_juniors ρ Q k)
         few ready.indexed.lower_roles others_below (λ j t. small j ((junior_iff ρ Q k j).0 t).0) (link_taken ρ Q ordered k stands i h)
 
   members_row : (j : ℕ) → j < candidate_count (roles_of st) → So (immediately_senior (roles_of st) st.standing k j)
-      → less_all 2 (take 256 (drop users_start index)) (set_at 2 ws (members_start + 2 * k)) (others seniors k j)
+      → less_all 2 index.users (set_at 2 ws (members_start + 2 * k)) (others seniors k j)
       ≡ direct_members (roles_of st) (st.standing ∖ single k) j ∩ authorised_users (roles_of st) k
   members_row j l h =
-      let users = take 256 (drop users_start index) in
-      ap (λ (x : ℕ). less_all 2 users x (others seniors k j)) own_members ∙ seniors_but users (direct_members ρ Q k) j l
-      ∙ left_over 2 c users (authorised_users ρ) (direct_members ρ Q k) (immediate_seniors ρ Q j ∖ single k) (direct_members ρ (Q ∖ single k) j ∩ authorised_users ρ k)
+      ap (λ (x : ℕ). less_all 2 index.users x (others seniors k j)) own_members ∙ seniors_but index.users (direct_members ρ Q k) j l
+      ∙ left_over 2 c index.users (authorised_users ρ) (direct_members ρ Q k) (immediate_seniors ρ Q j ∖ single k) (direct_members ρ (Q ∖ single k) j ∩ authorised_users ρ k)
       few ready.indexed.role_users (∖-lt c (immediate_seniors ρ Q j) (single k) (collect_lt c (λ i. has (immediate_juniors ρ Q i) j)))
       (λ u t. lt_of_lt_of_le ((member_iff ρ Q k u).0 t).0 (narrow st ready.limits).few_users) (member_taken ρ Q ordered k stands j h)
 
@@ -165,7 +164,7 @@ module _ (st : State) (ws index seniors : List ℕ) (ready : Ready st ws index s
         let permissions = over_read c s (immediate_seniors ρ Q k) _ (λ i. ones (direct_permissions ρ (Q ∖ single k) i ∩ permission_set ρ k)) few near.seniors seniors-below
         (λ i l x. ap ones (permissions_row i l (seniors-in i x))) in
         let links = over_read c s (immediate_seniors ρ Q k) _ (λ i. ones (immediate_juniors ρ (Q ∖ single k) i ∩ immediate_juniors ρ Q k)) few near.seniors seniors-below
-        (λ i l x. ap (λ (y : ℕ). ones (less_all 2 (take 256 (drop lower_start index)) y (others (take 256 (drop juniors_start ws)) k i))) near.juniors ∙ ap ones (links_row i l (seniors-in i x))) in
+        (λ i l x. ap (λ (y : ℕ). ones (less_all 2 index.lower y (others (take 256 (drop juniors_start ws)) k i))) near.juniors ∙ ap ones (links_row i l (seniors-in i x))) in
         λ i. record { roles = 0; members = members i; permissions = permissions i; links = links i }
 
     module _ (q b a : Counts) (us ps : ℕ) (eq : counts_in q ≡ model.counts (roles_of st) st.standing) (eu : us ≡ set_at 2 ws (members_start + 2 * k))

@@ -22,7 +22,8 @@ use Rattle.model.proofs.Steps.{limits_ordered}
 use Rattle.tables.specs.Tables.{HoldsSets}
 use Rattle.tables.proofs.Parts.{set_at_part}
 use Rattle.hierarchy.specs.Tables.{Numbered, Narrow, immediate_seniors}
-use Rattle.indexes.specs.Index.{users_start, LowerRoles, RoleUsers}
+use Rattle.indexes.specs.declared.index.Index.{Index}
+use Rattle.indexes.specs.Index.{LowerRoles, RoleUsers}
 use Rattle.indexes.proofs.Sources.{numbered, narrow}
 use Rattle.edit_rows.specs.Neighbours.{Neighbours}
 use Rattle.edit_rows.proofs.Changing.{sets_read, juniors_read, members_read, permissions_read, put_standing_lem, put_found}
@@ -33,7 +34,7 @@ use Rattle.edit_trials.proofs.Sums.{over_read}
 use Rattle.edit_trials.proofs.Coming.{taken_from, came, came_within}
 use Rattle.edit_trials.proofs.Counting.{exact_few}
 
-module _ (st : State) (ws index : List ℕ) (k : ℕ) (given : Restorable st ws index k) where
+module _ (st : State) (ws : List ℕ) (index : Index) (k : ℕ) (given : Restorable st ws index k) where
   abbrev ρ : Roles
   ρ = roles_of st
 
@@ -61,9 +62,6 @@ module _ (st : State) (ws index : List ℕ) (k : ℕ) (given : Restorable st ws 
       let next : w * suc i ≤ w * 128 = mul-le-mul_left w li in
       ap₂ (λ (x y : ℕ). ones (x ∩ y)) (set_at_part w start n ws (w * i) (omega (arith, mul-suc w i)) ∙ held ∙ ap (λ (x : ℕ). f x i) (sym back)) eo
 
-  users_read : set_at 2 index (users_start + 2 * k) ≡ authorised_users (roles_of st) k
-  users_read = let li = small k given.candidate in sym (set_at_part 2 users_start 256 index (2 * k) (omega arith)) ∙ given.indexed.role_users k given.candidate
-
   own_read : set_at 4 ws (sets_start + 4 * k) ≡ permission_set (roles_of st) k
   own_read = let li = small k given.candidate in sym (set_at_part 4 sets_start 512 ws (4 * k) (omega arith)) ∙ sets_read st given.limits ws given.afresh k given.candidate
 
@@ -74,7 +72,7 @@ module _ (st : State) (ws index : List ℕ) (k : ℕ) (given : Restorable st ws 
         let few = given.limits.candidates_most in
         let seniors-below = collect_lt c (λ i. has (immediate_juniors ρ S i) k) in
         let members = over_read c t (immediate_juniors ρ S k) _ (λ j. ones (direct_members ρ (S ∖ single k) j ∩ authorised_users ρ k)) few near.juniors (immediate_juniors_lt ρ S k)
-        (λ j l x. row 2 members_start 256 j (direct_members ρ) _ _ refl (small j l) (members_read st given.limits ws given.afresh j (small j l)) users_read) in
+        (λ j l x. row 2 members_start 256 j (direct_members ρ) _ _ refl (small j l) (members_read st given.limits ws given.afresh j (small j l)) (given.indexed.role_users k given.candidate)) in
         let permissions = over_read c s (immediate_seniors ρ S k) _ (λ i. ones (direct_permissions ρ (S ∖ single k) i ∩ permission_set ρ k)) few near.seniors seniors-below
         (λ i l x. row 4 permissions_start 512 i (direct_permissions ρ) _ _ refl (small i l) (permissions_read st given.limits ws given.afresh i (small i l)) own_read) in
         let links = over_read c s (immediate_seniors ρ S k) _ (λ i. ones (immediate_juniors ρ (S ∖ single k) i ∩ immediate_juniors ρ S k)) few near.seniors seniors-below

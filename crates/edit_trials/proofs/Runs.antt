@@ -23,16 +23,17 @@ use Rattle.edit_trials.specs.declared.progress.Progress.{Progress}
 use Rattle.quality.specs.declared.weights.Weights.{Weights}
 use Rattle.edit_trials.specs.Trying.{Exact, SameCrewList, InStep}
 use Rattle.edit_trials.proofs.Counting.{exact_few}
+use Rattle.indexes.specs.declared.index.Index.{Index}
 
 -- ---- a record that is ready, for whatever state, is so for its own
 
-pub ready_state : (st : State) (ws index seniors : List ℕ) → Ready st ws index seniors → state_of ws ≡ st
+pub ready_state : (st : State) (ws : List ℕ) (index : Index) (seniors : List ℕ) → Ready st ws index seniors → state_of ws ≡ st
 ready_state st ws index seniors ready = ap state_of ready.afresh ∙ state_back st ready.limits
 
-pub ready_own : (st : State) (ws index seniors : List ℕ) → Ready st ws index seniors → Ready (state_of ws) ws index seniors
+pub ready_own : (st : State) (ws : List ℕ) (index : Index) (seniors : List ℕ) → Ready st ws index seniors → Ready (state_of ws) ws index seniors
 ready_own st ws index seniors ready = subst (λ (x : State). Ready x ws index seniors) (sym (ready_state st ws index seniors ready)) ready
 
-module _ (ws index seniors : List ℕ) (ready : Ready (state_of ws) ws index seniors) where
+module _ (ws : List ℕ) (index : Index) (seniors : List ℕ) (ready : Ready (state_of ws) ws index seniors) where
   pub roles_count : candidate_count (roles_of (state_of ws)) ≡ get_or ws 2 0
   roles_count = count (state_of ws) ready.limits ws ready.afresh
 
@@ -80,23 +81,23 @@ pub crew_roles : (st : State) (ws : List ℕ) → SameCrewList st ws → roles_o
 crew_roles st ws a = ap roles_of a ∙ roles_now st (state_of ws).standing
 
 -- and the record is built afresh from it
-pub crew-built : (st : State) (ws index seniors : List ℕ) → Ready (state_of ws) ws index seniors → SameCrewList st ws → ws ≡ built (standing_now st (state_of ws).standing)
+pub crew-built : (st : State) (ws : List ℕ) (index : Index) (seniors : List ℕ) → Ready (state_of ws) ws index seniors → SameCrewList st ws → ws ≡ built (standing_now st (state_of ws).standing)
 crew-built st ws index seniors ready k = ready.afresh ∙ ap built k
 
 -- the number of roles in word 2 stays
-pub crew-count : (ws index seniors after index' seniors' : List ℕ) → Ready (state_of ws) ws index seniors → Ready (state_of after) after index' seniors' → SameCrewList (state_of ws) after
+pub crew-count : (ws : List ℕ) (index : Index) (seniors after : List ℕ) (index' : Index) (seniors' : List ℕ) → Ready (state_of ws) ws index seniors → Ready (state_of after) after index' seniors' → SameCrewList (state_of ws) after
     → get_or after 2 0 ≡ get_or ws 2 0
 crew-count ws index seniors after index' seniors' a b k =
     sym (roles_count after index' seniors' b) ∙ rw (crew_roles (state_of ws) after k) (roles_count ws index seniors a)
 
 -- the progress goes on with the record and the seniors as they were
-pub step_back : (ws index seniors after seniors' : List ℕ) (g r : Progress) → InStep ws index seniors g → after ≡ ws → seniors' ≡ seniors → r.counts ≡ g.counts
+pub step_back : (ws : List ℕ) (index : Index) (seniors after seniors' : List ℕ) (g r : Progress) → InStep ws index seniors g → after ≡ ws → seniors' ≡ seniors → r.counts ≡ g.counts
     → InStep after index seniors' r
 step_back ws index seniors after seniors' g r a e es ec = record { ready = rw (e, es) a.ready; exact = rw (e, ec) a.exact }
 
 -- ---- a change that is weighed before it is written
 
-module _ (ws index seniors : List ℕ) (ready : Ready (state_of ws) ws index seniors) (S : ℕ) (below : S < 2 ^ candidate_count (roles_of (state_of ws))) (q : Counts)
+module _ (ws : List ℕ) (index : Index) (seniors : List ℕ) (ready : Ready (state_of ws) ws index seniors) (S : ℕ) (below : S < 2 ^ candidate_count (roles_of (state_of ws))) (q : Counts)
     (e : counts_in q ≡ model.counts (roles_of (state_of ws)) S) where
   pub trial_few : Few q
   trial_few = exact_few (standing_now (state_of ws) S) (limits_now (state_of ws) S ready.limits below) q (rw (roles_now (state_of ws) S, standing_now_lem (state_of ws) S) e)

@@ -12,7 +12,8 @@ use Rattle.model.specs.Record.{sets_start, permissions_start, members_start, jun
 use Rattle.model.specs.State.{State, roles_of, standing_now}
 use Rattle.model.specs.Machine.{Run}
 use Rattle.hierarchy.specs.Tables.{less_all, immediate_seniors}
-use Rattle.indexes.specs.Index.{lower_start, users_start, Indexed}
+use Rattle.indexes.specs.declared.index.Index.{Index}
+use Rattle.indexes.specs.Index.{Indexed}
 use Rattle.rows.specs.Linked.{Ready}
 use Rattle.edit_rows.specs.Neighbours.{Neighbours}
 use Rattle.quality.specs.declared.counts.Counts.{Counts}
@@ -50,23 +51,23 @@ unfoldable pub counted_in : Roles → ℕ → ℕ → model.Counts
 counted_in ρ S k = role_counts (direct_members ρ S k) (direct_permissions ρ S k) (immediate_seniors ρ S k) (immediate_juniors ρ S k)
 
 -- what the rows of a record would lose if role k came back, with the immediate seniors s and the immediate juniors t
-unfoldable pub lost_at : List ℕ → List ℕ → ℕ → ℕ → ℕ → model.Counts
+unfoldable pub lost_at : List ℕ → Index → ℕ → ℕ → ℕ → model.Counts
 lost_at ws index k s t =
     record {
       roles = 0;
-      members = shared 2 (take table128_length (drop members_start ws)) (set_at 2 index (users_start + 2 * k)) t;
+      members = shared 2 (take table128_length (drop members_start ws)) (set_at 2 index.users (2 * k)) t;
       permissions = shared 4 (take table256_length (drop permissions_start ws)) (set_at 4 ws (sets_start + 4 * k)) s;
       links = shared 2 (take table128_length (drop juniors_start ws)) t s;
     }
 
 -- what they would take over if role k were struck
-unfoldable pub taken_at : List ℕ → List ℕ → List ℕ → ℕ → ℕ → ℕ → model.Counts
+unfoldable pub taken_at : List ℕ → Index → List ℕ → ℕ → ℕ → ℕ → model.Counts
 taken_at ws index seniors k s t =
     record {
       roles = 0;
-      members = taken_over 2 (take table128_length (drop users_start index)) (set_at 2 ws (members_start + 2 * k)) seniors k t;
+      members = taken_over 2 index.users (set_at 2 ws (members_start + 2 * k)) seniors k t;
       permissions = taken_over 4 (take table256_length (drop sets_start ws)) (set_at 4 ws (permissions_start + 4 * k)) (take table128_length (drop juniors_start ws)) k s;
-      links = taken_over 2 (take table128_length (drop lower_start index)) t (take table128_length (drop juniors_start ws)) k s;
+      links = taken_over 2 index.lower t (take table128_length (drop juniors_start ws)) k s;
     }
 
 -- none of the first counts is above the second
@@ -88,7 +89,7 @@ abbrev pub Exact : List ℕ → Counts → Type 0
 Exact ws q = counts_in q ≡ model.counts (roles_of (state_of ws)) (state_of ws).standing
 
 -- role k is an absent candidate of the record built afresh from a state, with its index
-pub record Restorable (st : State) (ws index : List ℕ) (k : ℕ) : Type 0 where
+pub record Restorable (st : State) (ws : List ℕ) (index : Index) (k : ℕ) : Type 0 where
   pub limits : Limits st
   pub afresh : ws ≡ built st
   pub indexed : Indexed (roles_of st) index
@@ -112,6 +113,6 @@ abbrev pub SameCrewList : State → List ℕ → Type 0
 SameCrewList st ws = state_of ws ≡ standing_now st (state_of ws).standing
 
 -- a record with its index and its immediate seniors, and the progress with its counts
-pub record InStep (ws index seniors : List ℕ) (g : Progress) : Type 0 where
+pub record InStep (ws : List ℕ) (index : Index) (seniors : List ℕ) (g : Progress) : Type 0 where
   pub ready : Ready (state_of ws) ws index seniors
   pub exact : Exact ws g.counts

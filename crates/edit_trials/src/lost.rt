@@ -1,16 +1,13 @@
 // What the neighbours of a role would lose to it if it came back: what is direct with them today, and would be direct with it.
 ghost use Rattle.std.specs.Prelude.{◌≡◌, ◌*◌, ◌≤◌, ◌<◌, length};
 ghost use Rattle.sets.specs.Held.{set_of};
-ghost use Rattle.model.specs.Record.{record_length};
-ghost use Rattle.indexes.specs.Index.{index_length};
-ghost use Rattle.quality.specs.Numbers.{counts_in, most_direct_members, most_direct_permissions};
+ghost use Rattle.quality.specs.Numbers.{counts_in};
 ghost use Rattle.edit_trials.specs.Trying.{shared, lost_at};
-ghost use Rattle.tables.specs.Tables.{table128_length, table256_length};
 
-use indexes::USERS;
+use indexes::Index;
 use quality::Counts;
 use sets::{Set, Set128, Set256};
-use tables::{JUNIORS, LENGTH, MEMBERS, PERMISSIONS, SETS, load};
+use tables::{JUNIORS, LENGTH, MEMBERS, PERMISSIONS, Record, SETS, load};
 
 // How many items the sets of these roles share with `own`.
 fn shared<const WORDS: usize>(table: &[u64], own: &Set<WORDS>, roles: Set128) -> usize
@@ -27,13 +24,11 @@ fn shared<const WORDS: usize>(table: &[u64], own: &Set<WORDS>, roles: Set128) ->
 }
 
 // What the neighbours of k would lose to it: its juniors direct members, its seniors direct permissions and links.
-pub fn lost(rec: &[u64], index: &[u64], k: usize, above: Set128, below: Set128) -> Counts
-    requires rec_len { length rec.now ≡ record_length }
-    requires index_len { length index.now ≡ index_length }
+pub fn lost(rec: &Record, index: &Index, k: usize, above: Set128, below: Set128) -> Counts
     requires k_bound { k < 128 }
     ensures { counts_in result ≡ lost_at rec.now index.now k (set_of above) (set_of below) }
 {
-    let users: Set128 = load(index, USERS + 2 * k);
+    let users: Set128 = load(&index.users, 2 * k);
     let own: Set256 = load(rec, SETS + 4 * k);
     let members = shared(&rec[MEMBERS..JUNIORS], &users, below);
     let permissions = shared(&rec[PERMISSIONS..MEMBERS], &own, above);

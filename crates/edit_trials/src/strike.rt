@@ -1,29 +1,25 @@
 // A strike weighed without writing it: the counts that the record would have.
-ghost use Rattle.std.specs.Prelude.{◌≡◌, ◌<◌, length};
+ghost use Rattle.std.specs.Prelude.{◌<◌};
 ghost use Rattle.std.proofs.Math.Bool.{So};
 ghost use Rattle.sets.specs.Sets.{has, ◌∖◌, single};
-ghost use Rattle.model.specs.Record.{record_length, state_of};
+ghost use Rattle.model.specs.Record.{state_of};
 ghost use Rattle.model.specs.State.{roles_of};
-ghost use Rattle.indexes.specs.Index.{index_length};
 ghost use Rattle.rows.specs.Linked.{Ready};
 ghost use Rattle.edit_trials.specs.Trying.{Exact, Tried};
-ghost use Rattle.tables.specs.Tables.{table128_length};
 
 use crate::count::{corrected, role_counts};
 use crate::taken::taken;
 use crate::trial::Trial;
+use indexes::Index;
 use quality::Counts;
-use tables::{JUNIORS, MEMBERS, PERMISSIONS, load};
+use tables::{JUNIORS, MEMBERS, PERMISSIONS, Record, Table128, load};
 
 // What taking the standing role k out would do to the counts q. Its row goes, and its neighbours take over what no other neighbour of theirs has.
-pub fn if_struck(rec: &[u64], index: &[u64], seniors: &[u64], q: Counts, k: usize) -> Trial
+pub fn if_struck(rec: &Record, index: &Index, seniors: &Table128, q: Counts, k: usize) -> Trial
     requires ready { Ready (state_of rec.now) rec.now index.now seniors.now }
     requires exact { Exact rec.now q }
     requires so { So (has (state_of rec.now).standing k) }
     requires k_bound { k < 128 }
-    requires rec_len { length rec.now ≡ record_length }
-    requires index_len { length index.now ≡ index_length }
-    requires seniors_len { length seniors.now ≡ table128_length }
     ensures { Tried (roles_of (state_of rec.now)) (state_of rec.now).standing ((state_of rec.now).standing ∖ single k) k result }
 {
     let above = load(seniors, 2 * k);

@@ -1,17 +1,15 @@
 // What the neighbours of a role would take over from it if it were struck: what is direct with it, and is with none of their other neighbours.
 ghost use Rattle.std.specs.Prelude.{◌≡◌, ◌*◌, ◌≤◌, ◌<◌, length};
 ghost use Rattle.sets.specs.Held.{set_of};
-ghost use Rattle.model.specs.Record.{record_length};
-ghost use Rattle.indexes.specs.Index.{index_length};
-ghost use Rattle.quality.specs.Numbers.{counts_in, Few, most_direct_members, most_direct_permissions};
+ghost use Rattle.tables.specs.Tables.{table128_length};
+ghost use Rattle.quality.specs.Numbers.{counts_in, Few};
 ghost use Rattle.edit_trials.specs.Trying.{taken_over, taken_at};
-ghost use Rattle.tables.specs.Tables.{table128_length, table256_length};
 
 use hierarchy::less;
-use indexes::{HOLDERS, LOWER, ROLES, USERS};
+use indexes::Index;
 use quality::Counts;
 use sets::{Set, Set128, Set256};
-use tables::{JUNIORS, LENGTH, MEMBERS, PERMISSIONS, SETS, load};
+use tables::{JUNIORS, LENGTH, MEMBERS, PERMISSIONS, Record, SETS, Table128, load};
 
 // How many items of `own` these roles would take over: each those that none of its neighbours but k has in the table.
 fn taken_over<const WORDS: usize>(
@@ -40,16 +38,13 @@ fn taken_over<const WORDS: usize>(
 
 // What the neighbours of k would take over: its juniors direct members, its seniors direct permissions and links to its juniors.
 pub fn taken(
-    rec: &[u64],
-    index: &[u64],
-    seniors: &[u64],
+    rec: &Record,
+    index: &Index,
+    seniors: &Table128,
     k: usize,
     above: Set128,
     below: Set128,
 ) -> Counts
-    requires rec_len { length rec.now ≡ record_length }
-    requires index_len { length index.now ≡ index_length }
-    requires seniors_len { length seniors.now ≡ table128_length }
     requires k_bound { k < 128 }
     ensures few { Few result }
     ensures result_value { counts_in result ≡ taken_at rec.now index.now seniors.now k (set_of above) (set_of below) }
@@ -57,9 +52,9 @@ pub fn taken(
     let users: Set128 = load(rec, MEMBERS + 2 * k);
     let own: Set256 = load(rec, PERMISSIONS + 4 * k);
     let juniors = &rec[JUNIORS..LENGTH];
-    let members = taken_over(&index[USERS..HOLDERS], &users, seniors, k, below);
+    let members = taken_over(&index.users, &users, seniors, k, below);
     let permissions = taken_over(&rec[SETS..PERMISSIONS], &own, juniors, k, above);
-    let links = taken_over(&index[LOWER..ROLES], &below, juniors, k, above);
+    let links = taken_over(&index.lower, &below, juniors, k, above);
     Counts {
         roles: 0,
         members: members as u64,

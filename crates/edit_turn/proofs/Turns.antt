@@ -22,14 +22,15 @@ use Rattle.model.specs.Machine.{Run, take_up, after_drop, after_strike, after_st
 use Rattle.model.specs.Record.{built, state_of, Limits}
 use Rattle.model.specs.State.{State, roles_of, standing_now}
 use Rattle.model.proofs.Record.{direct_permissions_lt}
-use Rattle.model.proofs.Bounds.{tolerance_iff}
 use Rattle.model.proofs.Elimination.{take-up, examined_one}
 use Rattle.model.proofs.Steps.{standing_now_lem}
+use Rattle.indexes.specs.declared.index.Index.{Index}
 use Rattle.indexes.specs.Index.{Indexed, HoldersFor}
 use Rattle.rows.specs.Linked.{Ready}
 use Rattle.quality.specs.declared.counts.Counts.{Counts}
 use Rattle.quality.specs.declared.weights.Tolerance.{Tolerance}
 use Rattle.quality.specs.Numbers.{counts_in, weights_in, tolerance_in, most_quality}
+use Rattle.quality.proofs.Limits.{tolerance_read}
 use Rattle.edit_trials.specs.declared.progress.Progress.{Progress}
 use Rattle.edit_trials.specs.declared.trial.Trial.{Trial}
 use Rattle.edit_trials.specs.Trying.{run_at, SameCrewList, InStep, Tried}
@@ -40,15 +41,13 @@ use Rattle.edit_turn.specs.Turning.{take_up_by, run_in, Stand, Underway, RunReac
 
 -- ---- products that can be formed
 
-module _ (t : Tolerance) (h : So (model.tolerance_allowed (tolerance_in t))) (q : ℕ) (small : q ≤ most_quality) where
+module _ (t : Tolerance) (q : ℕ) (small : q ≤ most_quality) where
   pub denominator_times : t.denominator * q ≤ 1000 * most_quality
-  unfolding tolerance_in
-  denominator_times = mul-le-mul ((tolerance_iff (tolerance_in t)).0 h).1 small
+  denominator_times = mul-le-mul ((tolerance_read t.numerator t.denominator).0 t.allowed).1 small
 
   pub numerator_times : t.numerator * q ≤ 2000 * most_quality
-  unfolding tolerance_in
   numerator_times =
-      let k = (tolerance_iff (tolerance_in t)).0 h in
+      let k = (tolerance_read t.numerator t.denominator).0 t.allowed in
       let b = k.1 in
       let a = k.3 in
       let most : t.numerator ≤ 2000 = omega arith in
@@ -98,7 +97,7 @@ held : (ws : List ℕ) (r : Turn) {R wl q x y : ℕ} → (state_of ws).standing 
 unfolding run_in run_at
 held ws r e_r el eq ex ey = λ i. record { standing = e_r i; worklist = el i; reference = eq i; changed = ex i; examined = ey i }
 
-module _ (ws index seniors : List ℕ) (terms : Terms) (turn : Turn) (k : ℕ) (u : Underway ws index seniors turn) where
+module _ (ws : List ℕ) (index : Index) (seniors : List ℕ) (terms : Terms) (turn : Turn) (k : ℕ) (u : Underway ws index seniors turn) where
   abbrev ρ : Roles
   ρ = roles_of (state_of ws)
 

@@ -6,9 +6,9 @@ use Rattle.sets.specs.Held.{set_of}
 use Rattle.sets.specs.Sets.{has}
 use Rattle.model.specs.Hierarchy.{Roles}
 use Rattle.model.specs.Machine.{Run, take_up}
-use Rattle.model.specs.Quality.{weights_allowed, tolerance_allowed}
 use Rattle.model.specs.Record.{state_of}
 use Rattle.model.specs.State.{State, roles_of}
+use Rattle.indexes.specs.declared.index.Index.{Index}
 use Rattle.indexes.specs.Index.{AllHolders}
 use Rattle.quality.specs.Numbers.{weights_in, tolerance_in, most_quality}
 use Rattle.edit_trials.specs.Trying.{run_at, SameCrewList, InStep}
@@ -18,11 +18,6 @@ use Rattle.edit_turn.specs.declared.Turn.{Turn}
 -- how many roles are taken up at most: 129 passes over 128 roles
 abbrev pub most_examined : ℕ
 most_examined = 16512
-
--- weights and tolerance in their ranges
-pub record Allowed (t : Terms) : Type 0 where
-  pub weights : So (weights_allowed (weights_in t.weights))
-  pub tolerance : So (tolerance_allowed (tolerance_in t.tolerance))
 
 -- the machine takes role k up by these terms
 unfoldable pub take_up_by : Roles → Terms → ℕ → Run → Run
@@ -37,7 +32,7 @@ abbrev pub Stand : ℕ → ℕ → Type 0
 Stand s R = (i : ℕ) → So (has s i) → So (has R i)
 
 -- a record with its whole index, its immediate seniors and its counts, at some turn of an elimination
-pub record Underway (ws index seniors : List ℕ) (turn : Turn) : Type 0 where
+pub record Underway (ws : List ℕ) (index : Index) (seniors : List ℕ) (turn : Turn) : Type 0 where
   pub in_step : InStep ws index seniors turn.progress
   pub holders : AllHolders (roles_of (state_of ws)) index
   pub listed : Stand (set_of turn.worklist) (state_of ws).standing
@@ -45,7 +40,7 @@ pub record Underway (ws index seniors : List ℕ) (turn : Turn) : Type 0 where
   pub quality_small : turn.progress.quality ≤ most_quality
 
 -- from a record with the state st the machine has come to the run r, and a record of the same crew list and a turn hold it
-pub record RunReached (st : State) (ws index seniors : List ℕ) (turn : Turn) (r : Run) : Type 0 where
+pub record RunReached (st : State) (ws : List ℕ) (index : Index) (seniors : List ℕ) (turn : Turn) (r : Run) : Type 0 where
   pub underway : Underway ws index seniors turn
   pub same_crew : SameCrewList st ws
   pub run : run_in ws turn ≡ r

@@ -1,22 +1,21 @@
 // One role taken up.
 #![tactic(auto)]
 
-ghost use Rattle.std.specs.Prelude.{◌≡◌, ◌*◌, ◌≤◌, ◌<◌, ltb, length};
+ghost use Rattle.std.specs.Prelude.{◌≡◌, ◌*◌, ◌≤◌, ◌<◌, ltb};
 ghost use Rattle.std.proofs.Math.Bool.{So};
 ghost use Rattle.sets.specs.Sets.{has};
-ghost use Rattle.model.specs.Quality.{tolerance_allowed};
-ghost use Rattle.model.specs.Record.{record_length, state_of};
+ghost use Rattle.model.specs.Record.{state_of};
 ghost use Rattle.model.specs.State.{roles_of};
-ghost use Rattle.indexes.specs.Index.{index_length};
-ghost use Rattle.quality.specs.Numbers.{tolerance_in, most_quality};
-ghost use Rattle.edit_turn.specs.Turning.{most_examined, Allowed, take_up_by, run_in, Underway, RunReached};
-ghost use Rattle.tables.specs.Tables.{table128_length};
+ghost use Rattle.quality.specs.Numbers.{most_quality};
+ghost use Rattle.edit_turn.specs.Turning.{most_examined, take_up_by, run_in, Underway, RunReached};
 
 use edit_rows::take_out_at;
 use edit_test::removable;
 use edit_trials::{Progress, if_struck};
+use indexes::Index;
 use quality::{Tolerance, Weights, weigh};
 use sets::Set128;
+use tables::{Record, Table128};
 
 // The weights and the tolerance of an elimination.
 #[derive(Clone, Copy)]
@@ -34,7 +33,6 @@ pub struct Turn {
 
 // Whether a strike that leaves this quality is within the tolerance of the quality that it is compared with.
 fn tolerated(t: Tolerance, quality: u64, reference: u64) -> bool
-    requires so { So (tolerance_allowed (tolerance_in t)) }
     requires quality_le_most_quality { quality ≤ most_quality }
     requires reference_le_most_quality { reference ≤ most_quality }
     ensures { result ≡ ltb (t.denominator * quality) (t.numerator * reference) }
@@ -45,19 +43,15 @@ fn tolerated(t: Tolerance, quality: u64, reference: u64) -> bool
 // Takes up the standing role k. Where it is not strikable it leaves the worklist; otherwise its strike is weighed, and it is taken out where the
 // quality is then within the tolerance.
 pub fn take_up(
-    rec: &mut [u64],
-    index: &[u64],
-    seniors: &mut [u64],
+    rec: &mut Record,
+    index: &Index,
+    seniors: &mut Table128,
     terms: Terms,
     k: usize,
     turn: Turn,
 ) -> Turn
     requires underway { Underway rec.old index.now seniors.old turn }
-    requires allowed { Allowed terms }
     requires so { So (has (state_of rec.old).standing k) }
-    requires rec_len { length rec.old ≡ record_length }
-    requires index_len { length index.now ≡ index_length }
-    requires seniors_len { length seniors.old ≡ table128_length }
     requires k_bound { k < 128 }
     requires examined_lt_most_examined { turn.progress.examined < most_examined }
     ensures { RunReached (state_of rec.old) rec.new index.now seniors.new result (take_up_by (roles_of (state_of rec.old)) terms k (run_in rec.old turn)) }

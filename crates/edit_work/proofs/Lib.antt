@@ -1,4 +1,3 @@
-pub mod Work
 pub mod Reaching
 pub mod Sampling
 pub mod Narrowing

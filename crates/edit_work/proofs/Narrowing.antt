@@ -1,10 +1,10 @@
 -- The samples that have all roles of one: those left after each of its roles, or one that it lies within, was asked for.
 -- Assumes nothing.
-use mathlib.Core.Path.{◌≡◌, refl, ◌∙◌}
+use mathlib.Core.Path.{◌≡◌, refl, ◌∙◌, ap}
 use mathlib.Core.Bool.{Bool, So}
 use mathlib.Core.Logic.{◌↔◌}
 use mathlib.Core.List.{List}
-use Prim.Native.Nat.{ℕ, ◌+◌, ◌*◌, ◌^◌, ◌≤◌, ◌<◌}
+use Prim.Native.Nat.{ℕ, ◌+◌, ◌*◌, ◌^◌, ◌<◌}
 use native.Mathlib.Omega.{arith}
 use lib.Count.{ones}
 use lib.Dec.{ltb}
@@ -17,41 +17,41 @@ use Rattle.model.specs.Hierarchy.{Roles, candidate_count, permission_set}
 use Rattle.model.specs.Indexes.{roles_of_user, down_from}
 use Rattle.model.proofs.Shortcuts.{roles_of_user_iff, down_from_iff, user_down}
 use Rattle.stores.specs.Stores.{put_at}
-use Rattle.stores.proofs.Stores.{length-put_at}
 use Rattle.tables.specs.Stores.{words_of}
 use Rattle.tables.proofs.Stores.{stored_back, stored_before}
-use Rattle.edit_work.specs.Work.{work_length, down_start, samples_start, holding_start, further_start, entry, HoldsAt, Unchanged, UpAndDown, holding, further, Sampled, KnownSample}
-use Rattle.edit_work.proofs.Work.{unchanged_below, set_same, reached_same, sampled_same}
+use Rattle.tables.specs.Tables.{HoldsSets}
+use Rattle.edit_work.specs.declared.work.Work.{Work}
+use Rattle.edit_work.specs.Work.{entries, UpAndDown, holding, further, Sampled, KnownSample}
 use Rattle.sets.proofs.Counts.{dropped_fewer}
 
 -- of `all` samples those are left that have each role of sample i that is not in `rest`
-pub record Narrowing (ws : List ℕ) (all i left rest : ℕ) : Type 0 where
-  pub within : (k : ℕ) → So (has rest k) → So (has (entry ws samples_start i) k)
+pub record Narrowing (ws : Work) (all i left rest : ℕ) : Type 0 where
+  pub within : (k : ℕ) → So (has rest k) → So (has (entries ws.samples i) k)
   pub exactly : (j : ℕ) → So (has left j)
-      ↔ (So (has all j) × ((k : ℕ) → So (has (entry ws samples_start i) k) → (So (has rest k) → ⊥) → So (has (entry ws samples_start j) k)))
+      ↔ (So (has all j) × ((k : ℕ) → So (has (entries ws.samples i) k) → (So (has rest k) → ⊥) → So (has (entries ws.samples j) k)))
 
-pub narrowing_start : (ws : List ℕ) (all i rest : ℕ) → rest ≡ entry ws samples_start i → Narrowing ws all i all rest
+pub narrowing_start : (ws : Work) (all i rest : ℕ) → rest ≡ entries ws.samples i → Narrowing ws all i all rest
 narrowing_start ws all i rest e =
     record { within = λ k t. rw e at t; exactly = λ j. (λ t. (t, λ k h out. absurd (out (rw e h))), λ w. w.0) }
 
-pub narrowing_all : (ws : List ℕ) (all i left rest : ℕ) → Narrowing ws all i left rest → rest ≡ 0
-    → (j : ℕ) → So (has left j) ↔ (So (has all j) × So (subset (entry ws samples_start i) (entry ws samples_start j)))
+pub narrowing_all : (ws : Work) (all i left rest : ℕ) → Narrowing ws all i left rest → rest ≡ 0
+    → (j : ℕ) → So (has left j) ↔ (So (has all j) × So (subset (entries ws.samples i) (entries ws.samples j)))
 narrowing_all ws all i left rest inv e j =
-    let mine = entry ws samples_start i in
-    let other = entry ws samples_start j in (
+    let mine = entries ws.samples i in
+    let other = entries ws.samples j in (
       λ t. let a = (inv.exactly j).0 t in (a.0, (subset_iff mine other).1 (λ k h. a.1 k h (λ x. So-not (has-zero k) (rw e at x)))),
       λ w. (inv.exactly j).1 (w.0, λ k h out. (subset_iff mine other).0 w.1 k h),
     )
 
-module _ (ws : List ℕ) (all i left rest : ℕ) (a : KnownSample ws all i) (inv : Narrowing ws all i left rest) (k : ℕ) (there : So (has rest k)) where
+module _ (ws : Work) (all i left rest : ℕ) (a : KnownSample ws all i) (inv : Narrowing ws all i left rest) (k : ℕ) (there : So (has rest k)) where
   -- the user whose roles a sample has
-  user : (j : ℕ) → j < a.count → (u : ℕ) × (entry ws samples_start j ≡ roles_of_user a.whose u)
+  user : (j : ℕ) → j < a.count → (u : ℕ) × (entries ws.samples j ≡ roles_of_user a.whose u)
   user j l = let w = a.samples.of_users.user_of j l in (w.0, a.samples.roles j l ∙ w.2)
 
   role : k < candidate_count a.whose
   role = let u = user i a.one in ((roles_of_user_iff a.whose u.0 k).0 (rw u.1 at (inv.within k there))).0
 
-  module _ (down : ℕ) (ed : down ≡ entry ws down_start k) where
+  module _ (down : ℕ) (ed : down ≡ entries ws.down k) where
     below : down ≡ down_from a.whose k
     below = ed ∙ a.reach.down k role
 
@@ -59,7 +59,7 @@ module _ (ws : List ℕ) (all i left rest : ℕ) (a : KnownSample ws all i) (inv
     narrowing_fewer = dropped_fewer rest down k there (rw below ((down_from_iff a.whose k k).1 (role, subset_refl (permission_set a.whose k))))
 
     -- those are left that hold k too, and with it all that lies within k
-    pub narrowing_more : (held left' rest' : ℕ) → held ≡ entry ws holding_start k → left' ≡ left ∩ held → rest' ≡ rest ∖ down → Narrowing ws all i left' rest'
+    pub narrowing_more : (held left' rest' : ℕ) → held ≡ entries ws.holding k → left' ≡ left ∩ held → rest' ≡ rest ∖ down → Narrowing ws all i left' rest'
     unfolding holding
     narrowing_more held left' rest' eh el er =
         let ρ = a.whose in
@@ -74,7 +74,7 @@ module _ (ws : List ℕ) (all i left rest : ℕ) (a : KnownSample ws all i) (inv
                 let d = (inv.exactly j).0 b.0 in
                 let h = (collect_iff a.count test j).0 (rw hold at b.1) in
                 let u = user j h.0 in
-                let own : So (has (entry ws samples_start j) k) = rw (a.samples.roles j h.0) h.1 in
+                let own : So (has (entries ws.samples j) k) = rw (a.samples.roles j h.0) h.1 in
                 let mine : So (has (roles_of_user ρ u.0) k) = rw u.1 at own in (
                   d.0,
                   λ q s gone.
@@ -95,19 +95,23 @@ module _ (ws : List ℕ) (all i left rest : ℕ) (a : KnownSample ws all i) (inv
           );
         }
 
--- ---- entry by entry
+-- ---- entry by entry: the rest of the work is as before
 
-pub record FurtherFilling (count : ℕ) (before ws : List ℕ) (n : ℕ) : Type 0 where
-  pub size : length ws ≡ work_length
-  pub some : n ≤ count
-  pub kept : Unchanged 0 further_start before ws
-  pub filled : HoldsAt further_start n (further count (entry before samples_start)) ws
+pub record FurtherFilling (count : ℕ) (before ws : Work) (n : ℕ) : Type 0 where
+  pub kept : ws ≡ record before { further = ws.further }
+  pub filled : HoldsSets 2 n (further count (entries before.samples)) ws.further
 
-pub filling_start : (count : ℕ) (ws : List ℕ) → length ws ≡ work_length → FurtherFilling count ws ws 0
-filling_start count ws size =
-    record { size = size; some = omega arith; kept = λ i from to. refl; filled = λ k l. absurd (let z : ⊥ = omega arith in z) }
+pub filling_start : (count : ℕ) (ws : Work) → FurtherFilling count ws ws 0
+filling_start count ws =
+    record { kept = refl; filled = λ k l. absurd (let z : ⊥ = omega arith in z) }
 
-module _ (count : ℕ) (before ws : List ℕ) (n all : ℕ) (given : (ρ : Roles) × (found : ℕ → ℕ) × UpAndDown ρ before × Sampled ρ count found before)
+reached_still : (ρ : Roles) (ws : Work) (t : List ℕ) → UpAndDown ρ ws → UpAndDown ρ (record ws { further = t })
+reached_still ρ ws t r = record { few = r.few; down = r.down; up = r.up }
+
+sampled_still : (ρ : Roles) (count : ℕ) (found : ℕ → ℕ) (ws : Work) (t : List ℕ) → Sampled ρ count found ws → Sampled ρ count found (record ws { further = t })
+sampled_still ρ count found ws t s = record { few = s.few; of_users = s.of_users; roles = s.roles; held = s.held }
+
+module _ (count : ℕ) (before ws : Work) (n all : ℕ) (given : (ρ : Roles) × (found : ℕ → ℕ) × UpAndDown ρ before × Sampled ρ count found before)
     (inv : FurtherFilling count before ws n) (l : n < count) (ea : all ≡ collect 128 (λ j. ltb j count)) where
   everyone : (j : ℕ) → So (has all j) ↔ (j < count)
   everyone j = (
@@ -121,43 +125,36 @@ module _ (count : ℕ) (before ws : List ℕ) (n all : ℕ) (given : (ρ : Roles
         whose = given.0;
         count = count;
         found = given.1;
-        reach = reached_same 0 further_start before ws inv.kept given.0 inv.size (omega arith) (omega arith) given.2;
-        samples = sampled_same 0 further_start before ws inv.kept given.0 count given.1 given.2.few (omega arith) (omega arith) given.3;
+        reach = rw inv.kept (reached_still given.0 before ws.further given.2);
+        samples = rw inv.kept (sampled_still given.0 count given.1 before ws.further given.3);
         one = l;
         everyone = everyone;
       }
 
-  same : (j : ℕ) → j < count → entry ws samples_start j ≡ entry before samples_start j
-  same j b = let few = given.3.few in set_same 0 further_start before ws inv.kept (samples_start + 2 * j) (omega arith) (omega arith)
+  same : (j : ℕ) → entries ws.samples j ≡ entries before.samples j
+  same j = ap (λ (w : Work). entries w.samples j) inv.kept
 
-  pub filling_more : (r : ℕ) → r < 2 ^ 128
-      → ((j : ℕ) → So (has r j) ↔ (So (has all j) × So (subset (entry ws samples_start n) (entry ws samples_start j))))
-      → FurtherFilling count before (put_at ws (further_start + 2 * n) (words_of 2 r)) (n + 1)
+  pub filling_more : (r : ℕ) → length ws.further ≡ 256 → r < 2 ^ 128
+      → ((j : ℕ) → So (has r j) ↔ (So (has all j) × So (subset (entries ws.samples n) (entries ws.samples j))))
+      → FurtherFilling count before (record ws { further = put_at ws.further (2 * n) (words_of 2 r) }) (n + 1)
   unfolding further
-  filling_more r small tells =
-      let size = inv.size in
+  filling_more r size small tells =
       let few = given.3.few in
-      let at = further_start + 2 * n in
-      let f = entry before samples_start in
+      let at = 2 * n in
+      let f = entries before.samples in
       let test : ℕ → Bool = λ j. subset (f n) (f j) in
       let e : r ≡ collect count test =
       same_set r (collect count test)
       (λ j t.
       let a = (tells j).0 t in
       let b = (everyone j).0 a.0 in
-      (collect_iff count test j).1 (b, rw (same n l, same j b) at a.1))
+      (collect_iff count test j).1 (b, rw (same n, same j) at a.1))
       (λ j t.
       let a = (collect_iff count test j).0 t in
-      (tells j).1 ((everyone j).1 a.0, rw (same n l, same j a.0) a.1)) in
+      (tells j).1 ((everyone j).1 a.0, rw (same n, same j) a.1)) in
       record {
-        size = length-put_at ws at (words_of 2 r) ∙ inv.size;
-        some = omega arith;
-        kept = λ i from to. unchanged_below ws at (words_of 2 r) i from (omega arith) ∙ inv.kept i from to;
+        kept = ap (λ (w : Work). record w { further = put_at ws.further at (words_of 2 r) }) inv.kept;
         filled = λ k b.
-            equal_or k n (λ (d : k ≡ n). rw d (stored_back ws at 2 r (omega arith) small ∙ e))
-            (λ d. stored_before ws at 2 r (further_start + 2 * k) 2 (omega arith) ∙ inv.filled k (omega arith));
+            equal_or k n (λ (d : k ≡ n). rw d (stored_back ws.further at 2 r (omega arith) small ∙ e))
+            (λ d. stored_before ws.further at 2 r (2 * k) 2 (omega arith) ∙ inv.filled k (omega arith));
       }
-
-pub filling_all : (count : ℕ) (before ws : List ℕ) (n : ℕ) → FurtherFilling count before ws n → count ≤ n
-    → Unchanged 0 further_start before ws × HoldsAt further_start count (further count (entry before samples_start)) ws
-filling_all count before ws n inv l = (inv.kept, λ k b. inv.filled k (omega arith))

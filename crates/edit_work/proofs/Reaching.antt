@@ -1,13 +1,12 @@
 -- The first holders, picked entry by entry; the roles down and up from each.
 -- Assumes nothing.
-use mathlib.Core.Path.{◌≡◌, ◌∙◌, ap}
+use mathlib.Core.Path.{◌≡◌, refl, ◌∙◌, ap}
 use mathlib.Core.Bool.{Bool, So}
 use mathlib.Core.Logic.{◌↔◌, ◌⊎◌, ⊎_elim}
 use mathlib.Core.List.{List}
 use Prim.Native.Nat.{ℕ, ◌+◌, ◌*◌, ◌≤◌, ◌<◌}
 use native.Mathlib.Omega.{arith}
 use lib.Dec.{ltb}
-use lib.ListN.{length}
 use Rattle.sets.specs.Truth.{when◌then◌else◌}
 use Rattle.sets.specs.Sets.{has, ◌∪◌, single, collect}
 use Rattle.sets.proofs.Truth.{So-not, equal_or, ltb_iff, when-true}
@@ -20,8 +19,9 @@ use Rattle.model.proofs.Shortcuts.{roles_of_permission_iff, down_from_iff, up_fr
 use Rattle.tables.specs.Tables.{HoldsSets}
 use Rattle.sets.specs.Extremes.{LowestItem}
 use Rattle.hierarchy.specs.Tables.{Numbered}
-use Rattle.edit_work.specs.Work.{LowestOf}
-use Rattle.edit_work.specs.Work.{work_length, down_start, entries, holding, UpAndDown, Placed}
+use Rattle.model.specs.Indexes.{roles_of_user}
+use Rattle.edit_work.specs.declared.work.Work.{Work}
+use Rattle.edit_work.specs.Work.{LowestOf, entries, holding, UpAndDown, users_with_roles, SamplesOf, Sampled}
 
 -- ---- the first holders
 
@@ -76,8 +76,7 @@ put_self low k x r l ex e = e ∙ when-true (ltb k 128) (x ∪ single k) x ((ltb
 
 -- a column of the roles down from each are the roles up from one
 up_column : (ρ : Roles) (k : ℕ) (down : List ℕ) → k < candidate_count ρ → HoldsSets 2 (candidate_count ρ) (down_from ρ) down
-    → holding (candidate_count ρ) (entries down) k ≡ up_from ρ k
-unfolding holding
+    → collect (candidate_count ρ) (λ i. has (set_at 2 down (2 * i)) k) ≡ up_from ρ k
 up_column ρ k down l held =
     let c = candidate_count ρ in
     let test : ℕ → Bool = λ i. has (set_at 2 down (2 * i)) k in
@@ -85,15 +84,23 @@ up_column ρ k down l held =
     (λ i t. let a = (collect_iff c test i).0 t in (up_from_iff ρ k i).1 (a.0, ((down_from_iff ρ i k).0 (rw (held i a.0) at a.1)).1))
     (λ i t. let a = (up_from_iff ρ k i).0 t in (collect_iff c test i).1 (a.0, rw (held i a.0) ((down_from_iff ρ i k).1 (l, a.1))))
 
-pub up-and_down : (low down before ws : List ℕ) (c : ℕ) → length ws ≡ work_length → HoldsSets 2 c (λ k. set_at 2 low (2 * k) ∪ single k) down
-    → Placed down c c down_start before ws → (ρ : Roles) → candidate_count ρ ≡ c → Numbered ρ → HoldsSets 2 (candidate_count ρ) (lower ρ) low
-    → UpAndDown ρ ws
-up-and_down low down before ws c size filled put ρ e numbered lows =
-    let held : HoldsSets 2 (candidate_count ρ) (down_from ρ) down =
+pub up-and_down : (low : List ℕ) (ws : Work) (c : ℕ) → HoldsSets 2 c (λ k. set_at 2 low (2 * k) ∪ single k) ws.down
+    → HoldsSets 2 c (λ k. collect c (λ i. has (set_at 2 ws.down (2 * i)) k)) ws.up → (ρ : Roles) → candidate_count ρ ≡ c → Numbered ρ
+    → HoldsSets 2 (candidate_count ρ) (lower ρ) low → UpAndDown ρ ws
+up-and_down low ws c filled columns ρ e numbered lows =
+    let held : HoldsSets 2 (candidate_count ρ) (down_from ρ) ws.down =
     λ k l. filled k (rw e at l) ∙ ap (λ (y : ℕ). y ∪ single k) (lows k l) ∙ down_lower ρ numbered.distinct k l in
     record {
-      size = size;
       few = numbered.few;
-      down = λ k l. put.sets k (rw e at l) ∙ held k l;
-      up = λ k l. put.columns k (rw e at l) ∙ rw e at (up_column ρ k down l held);
+      down = held;
+      up = λ k l. columns k (rw e at l) ∙ rw e at (up_column ρ k ws.down l held);
     }
+
+-- ---- the samples with their columns
+
+pub sampled : (ws : Work) (count c : ℕ) → count ≤ 128 → HoldsSets 2 c (λ k. collect count (λ i. has (set_at 2 ws.samples (2 * i)) k)) ws.holding
+    → (ρ : Roles) → candidate_count ρ ≡ c → SamplesOf (users_with_roles ρ) (roles_of_user ρ) count (entries ws.samples)
+    → Sampled ρ count (entries ws.samples) ws
+unfolding holding
+sampled ws count c few columns ρ e samples =
+    record { few = few; of_users = samples; roles = λ k l. refl; held = λ k l. columns k (rw e at l) }

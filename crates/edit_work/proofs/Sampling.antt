@@ -13,7 +13,7 @@ use lib.ListN.{length}
 use Rattle.sets.specs.Truth.{isnt}
 use Rattle.sets.specs.Sets.{has, ◌∪◌, ◌∖◌, single, subset}
 use Rattle.sets.proofs.Truth.{by_test, So-not, either, equal_or, isnt_iff, eqb_iff}
-use Rattle.sets.proofs.Members.{has-zero, same_set, item_of, item_below}
+use Rattle.sets.proofs.Members.{has-zero, same_set, item_of}
 use Rattle.sets.proofs.Order.{∪-iff, ∖-iff, ∪-lt, single_iff, subset_iff, collect_iff, disjoint_iff}
 use Rattle.sets.proofs.Counts.{ones_disjoint, ones_without, ones_some}
 use Rattle.model.specs.Lists.{set_at}
@@ -23,10 +23,10 @@ use Rattle.model.proofs.Reading.{user_iff}
 use Rattle.model.proofs.Shortcuts.{roles_of_user_iff}
 use Rattle.stores.specs.Stores.{put_at}
 use Rattle.tables.specs.Stores.{words_of}
-use Rattle.tables.proofs.Parts.{set_at_part}
 use Rattle.tables.proofs.Stores.{stored_back, stored_before}
-use Rattle.indexes.specs.Index.{roles_start, users_start, Indexed}
-use Rattle.edit_work.specs.Work.{entries, entry, users_with_roles, SamplesOf}
+use Rattle.indexes.specs.declared.index.Index.{Index}
+use Rattle.indexes.specs.Index.{Indexed}
+use Rattle.edit_work.specs.Work.{entries, users_with_roles, SamplesOf}
 
 -- ---- the roles of one more user: sample j has them, and there are no new ones but j
 
@@ -88,15 +88,13 @@ met_more met users rest u within there =
 
 -- what holds after some of these users
 pub record Adding (roles : ℕ → ℕ) (users start : ℕ) (before : List ℕ) (table : List ℕ) (found rest : ℕ) : Type 0 where
-  pub size : length table ≡ 256
   pub within : So (subset rest users)
   pub few : found + ones rest ≤ start + ones users
   pub samples : (met : ℕ) → SamplesOf met roles start (entries before) → SamplesOf (met ∪ (users ∖ rest)) roles found (entries table)
 
-pub adding_start : (roles : ℕ → ℕ) (users start : ℕ) (table : List ℕ) → length table ≡ 256 → Adding roles users start table table start users
-adding_start roles users start table size =
+pub adding_start : (roles : ℕ → ℕ) (users start : ℕ) (table : List ℕ) → Adding roles users start table table start users
+adding_start roles users start table =
     record {
-      size = size;
       within = (subset_iff users users).1 (λ i t. t);
       few = omega arith;
       samples = λ met s.
@@ -113,13 +111,12 @@ pub adding_room : (roles : ℕ → ℕ) (users start : ℕ) (before table : List
 adding_room roles users start before table found rest u inv room there = let a = inv.few in let b = ones_some rest u there in omega arith
 
 pub adding_more : (roles : ℕ → ℕ) (users start : ℕ) (before table : List ℕ) (found rest u x found' rest' : ℕ) (table' : List ℕ)
-    → Adding roles users start before table found rest → So (has rest u) → x ≡ roles u → length table' ≡ 256
+    → Adding roles users start before table found rest → So (has rest u) → x ≡ roles u
     → (found' ≤ found + 1)
     × ((met v : ℕ) (f : ℕ → ℕ) → SamplesOf met f found (entries table) → x ≡ f v → SamplesOf (met ∪ single v) f found' (entries table'))
     → rest' ≡ rest ∖ single u → Adding roles users start before table' found' rest'
-adding_more roles users start before table found rest u x found' rest' table' inv there e size put er =
+adding_more roles users start before table found rest u x found' rest' table' inv there e put er =
     record {
-      size = size;
       within = (subset_iff rest' users).1 (λ i t. (subset_iff rest users).0 inv.within i ((∖-iff rest (single u) i).0 (rw er at t)).0);
       few =
           let a = put.0 in
@@ -141,20 +138,18 @@ adding_all roles users start before table found rest inv e =
 
 -- ---- role by role, from the last down: whoever has a role from k on is met
 
-pub record Meeting (index : List ℕ) (c : ℕ) (table : List ℕ) (count met k : ℕ) : Type 0 where
-  pub size : length table ≡ 256
+pub record Meeting (index : Index) (c : ℕ) (table : List ℕ) (count met k : ℕ) : Type 0 where
   pub left : k ≤ c
   pub few : count ≤ ones met
   pub small : met < 2 ^ 128
-  pub samples : SamplesOf met (entry index roles_start) count (entries table)
-  pub holder : (u : ℕ) → So (has met u) → (j : ℕ) × (j < c) × So (has (entry index users_start j) u)
-  pub done : (u j : ℕ) → k ≤ j → j < c → So (has (entry index users_start j) u) → So (has met u)
+  pub samples : SamplesOf met (entries index.roles) count (entries table)
+  pub holder : (u : ℕ) → So (has met u) → (j : ℕ) × (j < c) × So (has (entries index.users j) u)
+  pub done : (u j : ℕ) → k ≤ j → j < c → So (has (entries index.users j) u) → So (has met u)
 
-pub meeting_start : (index : List ℕ) (c : ℕ) (table : List ℕ) (met : ℕ) → length table ≡ 256 → met ≡ 0 → met < 2 ^ 128 → Meeting index c table 0 met c
-meeting_start index c table met size e small =
+pub meeting_start : (index : Index) (c : ℕ) (table : List ℕ) (met : ℕ) → met ≡ 0 → met < 2 ^ 128 → Meeting index c table 0 met c
+meeting_start index c table met e small =
     let none : (u : ℕ) → So (has met u) → ⊥ = λ u t. So-not (has-zero u) (rw e at t) in
     record {
-      size = size;
       left = omega arith;
       few = omega arith;
       small = small;
@@ -163,8 +158,8 @@ meeting_start index c table met size e small =
       done = λ u j l h t. absurd (let z : ⊥ = omega arith in z);
     }
 
-module _ (index : List ℕ) (c : ℕ) (table : List ℕ) (count met k x users : ℕ) (some : 0 < k) (inv : Meeting index c table count met k)
-    (ex : x ≡ entry index users_start (k - 1)) (eu : users ≡ x ∖ met) (narrow : users < 2 ^ 128) where
+module _ (index : Index) (c : ℕ) (table : List ℕ) (count met k x users : ℕ) (some : 0 < k) (inv : Meeting index c table count met k)
+    (ex : x ≡ entries index.users (k - 1)) (eu : users ≡ x ∖ met) (narrow : users < 2 ^ 128) where
   met_count : ones (met ∪ users) ≡ ones met + ones users
   met_count =
       ones_disjoint met users ((disjoint_iff met users).1 (λ u t h. ((∖-iff x met u).0 (rw eu at h)).1 t))
@@ -177,14 +172,13 @@ module _ (index : List ℕ) (c : ℕ) (table : List ℕ) (count met k x users : 
       let e = met_count in
       omega arith
 
-  pub meeting_more : (table' : List ℕ) (count' met' : ℕ) → length table' ≡ 256
+  pub meeting_more : (table' : List ℕ) (count' met' : ℕ)
       → (count' ≤ count + ones users)
-      × ((m : ℕ) → SamplesOf m (entry index roles_start) count (entries table) → SamplesOf (m ∪ users) (entry index roles_start) count' (entries table'))
+      × ((m : ℕ) → SamplesOf m (entries index.roles) count (entries table) → SamplesOf (m ∪ users) (entries index.roles) count' (entries table'))
       → met' ≡ met ∪ users → Meeting index c table' count' met' (k - 1)
-  meeting_more table' count' met' size put em =
+  meeting_more table' count' met' put em =
       let lk = inv.left in
       record {
-        size = size;
         left = omega arith;
         few = let a = inv.few in let b = put.0 in let e : ones met' ≡ ones met + ones users = rw em met_count in omega arith;
         small = rw em (∪-lt 128 met users inv.small narrow);
@@ -218,20 +212,19 @@ with_roles_iff ρ u =
     )
 
 -- all users are met that have a role
-module _ (index : List ℕ) (c : ℕ) (table : List ℕ) (count met k : ℕ) (few : c ≤ 128) (last : k ≡ 0) (inv : Meeting index c table count met k) where
+module _ (index : Index) (c : ℕ) (table : List ℕ) (count met k : ℕ) (few : c ≤ 128) (last : k ≡ 0) (inv : Meeting index c table count met k) where
   module _ (ρ : Roles) (e : candidate_count ρ ≡ c) (ix : Indexed ρ index) where
-    users_read : (j : ℕ) → j < c → entry index users_start j ≡ authorised_users ρ j
-    users_read j l = sym (set_at_part 2 users_start 256 index (2 * j) (omega arith)) ∙ ix.role_users j (rw e l)
+    users_read : (j : ℕ) → j < c → entries index.users j ≡ authorised_users ρ j
+    users_read j l = ix.role_users j (rw e l)
 
     -- a user that is met is a user of some role
     met_user : (u : ℕ) → So (has met u) → (j : ℕ) × (j < c) × So (has (authorised_users ρ j) u)
     met_user u t = let w = inv.holder u t in (w.0, w.1, rw (users_read w.0 w.1) at w.2)
 
-    roles_read : (u : ℕ) → So (has met u) → entry index roles_start u ≡ roles_of_user ρ u
+    roles_read : (u : ℕ) → So (has met u) → entries index.roles u ≡ roles_of_user ρ u
     roles_read u t =
         let w = met_user u t in
-        let small = item_below 128 met u inv.small t in
-        sym (set_at_part 2 roles_start 256 index (2 * u) (omega arith)) ∙ ix.user_roles u ((user_iff ρ w.0 u).0 w.2).0
+        ix.user_roles u ((user_iff ρ w.0 u).0 w.2).0
 
     met_users : met ≡ users_with_roles ρ
     met_users =

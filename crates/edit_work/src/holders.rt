@@ -1,11 +1,12 @@
 // The first holders of permissions. All others that hold one contain it: the intersection of two holders is a holder.
 ghost use Rattle.std.proofs.Math.Bool.{So};
-ghost use Rattle.std.specs.Prelude.{◌↔◌, ◌⊎◌, ℕ, ◌*◌, ◌≤◌, length};
+ghost use Rattle.std.specs.Prelude.{◌↔◌, ◌⊎◌, ℕ, ◌≤◌};
 ghost use Rattle.sets.specs.Held.{set_of};
 ghost use Rattle.sets.specs.Sets.{has};
 ghost use Rattle.sets.specs.Extremes.{LowestItem};
 ghost use Rattle.edit_work.specs.Work.{LowestOf};
 
+use indexes::Holders;
 use sets::Set128;
 use tables::load;
 
@@ -20,9 +21,8 @@ fn with_lowest(found: Set128, s: Set128) -> Set128
 }
 
 // The first holders of m permissions.
-pub fn first_holders(holders: &[u64], m: usize) -> Set128
-    requires m_bound { m ≤ 256 }
-    requires m_in_bounds { 2 * m ≤ length holders.now }
+pub fn first_holders(holders: &Holders, m: usize) -> Set128
+    requires { m ≤ 256 }
     ensures { LowestOf m holders.now (set_of result) }
 {
     let mut found = Set128::empty();

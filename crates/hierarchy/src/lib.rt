@@ -1,4 +1,4 @@
-// The rows of the roles, from tables of sets lent as slices: 4 words to a set of permissions, 2 to a set of roles or users.
+// The rows of the roles, from tables of sets that are lent: 4 words to a set of permissions, 2 to a set of roles or users.
 #![tactic(auto)]
 
 mod lower;

@@ -1,18 +1,17 @@
 // The row of one role: immediate juniors, direct permissions, direct members. A role that does not stand has an empty row.
-ghost use Rattle.std.specs.Prelude.{◌≡◌, ◌*◌, ◌^◌, ◌<◌, length};
+ghost use Rattle.std.specs.Prelude.{◌≡◌, ◌^◌, ◌<◌, length};
 ghost use Rattle.sets.specs.Held.{set_of};
 ghost use Rattle.model.specs.Hierarchy.{Roles, candidate_count, permission_set, authorised_users, immediate_juniors, direct_permissions, direct_members};
 ghost use Rattle.model.specs.Indexes.{lower};
-ghost use Rattle.tables.specs.Tables.{HoldsSets, table128_length, table256_length};
+ghost use Rattle.tables.specs.Tables.{HoldsSets, table256_length};
 ghost use Rattle.hierarchy.specs.Tables.{Numbered, Narrow, immediate_seniors};
 
 use crate::sieve::{less, maximal_of};
 use sets::{Set128, Set256};
-use tables::load;
+use tables::{Table128, load};
 
 // Of the standing roles below k, those that lie below no other.
-pub fn juniors_of(index: &[u64], standing: Set128, k: usize) -> Set128
-    requires index_len { length index.now ≡ table128_length }
+pub fn juniors_of(index: &Table128, standing: Set128, k: usize) -> Set128
     requires k_bound { k < 128 }
     ensures { (ρ : Roles) → Numbered ρ → HoldsSets 2 (candidate_count ρ) (lower ρ) index.now → set_of standing < 2 ^ candidate_count ρ → set_of result ≡ immediate_juniors ρ (set_of standing) k }
 {
@@ -35,8 +34,7 @@ pub fn permissions_of(table: &[u64], juniors: Set128, standing: Set128, k: usize
 }
 
 // The users of k less those of its immediate seniors.
-pub fn members_of(users: &[u64], seniors: Set128, standing: Set128, k: usize) -> Set128
-    requires users_len { length users.now ≡ table128_length }
+pub fn members_of(users: &Table128, seniors: Set128, standing: Set128, k: usize) -> Set128
     requires k_bound { k < 128 }
     ensures { (ρ : Roles) → Numbered ρ → Narrow ρ → HoldsSets 2 (candidate_count ρ) (authorised_users ρ) users.now → set_of standing < 2 ^ candidate_count ρ → set_of seniors ≡ immediate_seniors ρ (set_of standing) k → set_of result ≡ direct_members ρ (set_of standing) k }
 {

@@ -1,15 +1,15 @@
 // The immediate seniors of a role, found from the index where the record does not hold them yet.
-ghost use Rattle.std.specs.Prelude.{◌≡◌, ◌^◌, ◌<◌, eqb, length};
+ghost use Rattle.std.specs.Prelude.{◌≡◌, ◌^◌, ◌<◌, eqb};
 ghost use Rattle.sets.specs.Held.{set_of};
 ghost use Rattle.sets.specs.Sets.{has, ◌∩◌, ◌∪◌, single};
 ghost use Rattle.sets.specs.Truth.{◌and◌, when◌then◌else◌};
 ghost use Rattle.model.specs.Hierarchy.{Roles, candidate_count};
 ghost use Rattle.model.specs.Indexes.{lower};
-ghost use Rattle.tables.specs.Tables.{HoldsSets, table128_length};
+ghost use Rattle.tables.specs.Tables.{HoldsSets};
 ghost use Rattle.hierarchy.specs.Tables.{Numbered, immediate_seniors};
 
 use sets::Set128;
-use tables::load;
+use tables::{Table128, load};
 
 // The set with i in it where k is below i, and none of the set is.
 fn with_senior(found: Set128, i: usize, below: Set128, k: usize) -> Set128
@@ -24,8 +24,7 @@ fn with_senior(found: Set128, i: usize, below: Set128, k: usize) -> Set128
 
 // The lowest ones of the standing roles above k. A role below another has a lower number, so that from the lowest number up each role
 // has only to be held against those that were found before it.
-pub fn seniors_of(low: &[u64], standing: Set128, k: usize) -> Set128
-    requires { length low.now ≡ table128_length }
+pub fn seniors_of(low: &Table128, standing: Set128, k: usize) -> Set128
     ensures { (ρ : Roles) → Numbered ρ → HoldsSets 2 (candidate_count ρ) (lower ρ) low.now → set_of standing < 2 ^ candidate_count ρ → set_of result ≡ immediate_seniors ρ (set_of standing) k }
 {
     if !standing.contains(k) {

@@ -52,12 +52,12 @@ own_more st u low roles users h fact =
     }
 
 -- one own role more
-pub own_learnt : (st : State) (crew : List ℕ) (at n : ℕ) (table : List ℕ) (c : ℕ) → Source st crew at n table c → (low : List ℕ) (roles users i e u x roles' users' : ℕ)
+pub own_learnt : (st : State) (crew : List ℕ) (n : ℕ) (table : List ℕ) (c : ℕ) → Source st crew n table c → (low : List ℕ) (roles users i e u x roles' users' : ℕ)
     → Owned st i low roles users → length low ≡ 256 → e < 128 → u < 128 → e < c → u < n → permission_set (roles_of st) e ≡ get_or st.rows u 0
     → x ≡ collect e (λ j. subset (set_at 4 table (4 * j)) (set_at 4 table (4 * e))) → x < 2 ^ 128
     → roles' ≡ (when ltb e 128 then roles ∪ single e else roles) → users' ≡ (when ltb u 128 then users ∪ single u else users)
     → Owned st i (put_at low (2 * e) (words_of 2 x)) roles' users' × So (has roles' e)
-own_learnt st crew at n table c src low roles users i e u x roles' users' h size le lu lc ln own ex small er eu =
+own_learnt st crew n table c src low roles users i e u x roles' users' h size le lu lc ln own ex small er eu =
     let more : roles' ≡ roles ∪ single e = er ∙ when-true (ltb e 128) (roles ∪ single e) roles ((ltb_iff e 128).1 le) in
     let others : users' ≡ users ∪ single u = eu ∙ when-true (ltb u 128) (users ∪ single u) users ((ltb_iff u 128).1 lu) in
     let old : (f : ℕ) → f ≢ e → So (has roles' f) → So (has roles f) =
@@ -66,7 +66,7 @@ own_learnt st crew at n table c src low roles users i e u x roles' users' h size
       record {
         entries = λ f t.
             equal_or f e
-            (λ (same : f ≡ e). rw same (rw (source_count st crew at n table c src) lc, stored_back low (2 * e) 2 x (omega arith) small ∙ ex ∙ low_found st crew at n table c src e lc))
+            (λ (same : f ≡ e). rw same (rw (source_count st crew n table c src) lc, stored_back low (2 * e) 2 x (omega arith) small ∙ ex ∙ low_found st crew n table c src e lc))
             (λ d. let k = h.entries f (old f d t) in (k.0, beside low e x f d ∙ k.1));
         spoken = λ f t.
             equal_or f e

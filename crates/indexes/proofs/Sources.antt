@@ -18,22 +18,21 @@ use Rattle.sets.proofs.Order.{collect_iff, proper_iff}
 use Rattle.sets.proofs.Words.{word-zero}
 use Rattle.model.specs.Lists.{set_at, rows_at}
 use Rattle.model.specs.Candidates.{candidates}
-use Rattle.model.specs.Hierarchy.{Roles, candidate_count, permission_set, authorised_users}
+use Rattle.model.specs.Hierarchy.{candidate_count, permission_set, authorised_users}
 use Rattle.model.specs.Indexes.{lower, roles_of_user}
 use Rattle.model.specs.State.{State, roles_of}
 use Rattle.model.proofs.Growing.{growing_place, listed_at}
 use Rattle.model.proofs.Candidates.{candidates_growing, candidates_table, proper_lower, row_candidate, candidate_bound}
 use Rattle.model.proofs.Lists.{length-rows_at, get_d_rows_at, set_at_words}
 use Rattle.model.proofs.Reading.{user_iff}
-use Rattle.model.specs.Record.{Limits}
+use Rattle.model.specs.Record.{crew_start, Limits}
 use Rattle.model.proofs.Shortcuts.{lower_iff, roles_of_user_iff, user_own, user_none}
 use Rattle.tables.specs.Tables.{HoldsSets}
 use Rattle.hierarchy.specs.Tables.{Numbered, Narrow}
 use Rattle.tables.specs.Search.{Between}
-use Rattle.stores.specs.Stores.{put_at}
-use Rattle.stores.proofs.Stores.{length-put_at, part_before, part_behind, part_stored}
-use Rattle.indexes.specs.Index.{index_length, lower_start, roles_start, users_start, Indexed}
-use Rattle.indexes.specs.Tables.{Source, Tabled}
+use Rattle.indexes.specs.declared.index.Index.{Index}
+use Rattle.indexes.specs.Index.{Indexed}
+use Rattle.indexes.specs.Tables.{Source, SourceOf}
 
 -- ---- states within the limits
 
@@ -59,7 +58,7 @@ pub nonempty : (st : State) (k : ℕ) → k < candidate_count (roles_of st) → 
 unfolding candidate_count permission_set roles_of
 nonempty st k l = (candidates_table st.rows).nonempty (get_or (candidates st.rows) k 0) (listed_at (candidates st.rows) k l)
 
-module _ (st : State) (crew : List ℕ) (at n : ℕ) (table : List ℕ) (c : ℕ) (src : Source st crew at n table c) where
+module _ (st : State) (crew : List ℕ) (n : ℕ) (table : List ℕ) (c : ℕ) (src : Source st crew n table c) where
   pub source_count : candidate_count (roles_of st) ≡ c
   unfolding candidate_count roles_of
   source_count = ap length src.sets ∙ length-rows_at c table 0
@@ -70,11 +69,8 @@ module _ (st : State) (crew : List ℕ) (at n : ℕ) (table : List ℕ) (c : ℕ
       let e : 0 + 4 * k ≡ 4 * k = omega arith in
       sym (ap (λ (xs : List ℕ). get_or xs k 0) src.sets ∙ get_d_rows_at c table 0 k l ∙ ap (set_at 4 table) e)
 
-  pub source_sets : HoldsSets 4 (candidate_count (roles_of st)) (permission_set (roles_of st)) table
-  source_sets k l = source_set k (rw source_count at l)
-
-  pub source_row : (u : ℕ) → u < n → set_at 4 crew (at + 4 * u) ≡ get_or st.rows u 0
-  source_row u l = sym (ap (λ (xs : List ℕ). get_or xs u 0) src.rows ∙ get_d_rows_at n crew at u l)
+  pub source_row : (u : ℕ) → get_or crew u 0 ≡ get_or st.rows u 0
+  source_row u = sym (ap (λ (xs : List ℕ). get_or xs u 0) src.rows)
 
   -- ---- the roles of a user
 
@@ -157,33 +153,19 @@ module _ (st : State) (crew : List ℕ) (at n : ℕ) (table : List ℕ) (c : ℕ
       → HoldsSets 2 c (authorised_users (roles_of st)) users
   users_held roles users hr hu k l = hu k l ∙ users_found roles hr k l
 
-  pub tabled : (low roles users : List ℕ) → HoldsSets 2 c (lower (roles_of st)) low → HoldsSets 2 n (roles_of_user (roles_of st)) roles
-      → HoldsSets 2 c (authorised_users (roles_of st)) users → Tabled (roles_of st) low roles users
+  pub indexed : (ix : Index) → HoldsSets 2 c (lower (roles_of st)) ix.lower → HoldsSets 2 n (roles_of_user (roles_of st)) ix.roles
+      → HoldsSets 2 c (authorised_users (roles_of st)) ix.users → Indexed (roles_of st) ix
   unfolding roles_of
-  tabled low roles users hl hr hu =
+  indexed ix hl hr hu =
       record {
         lower_roles = λ k l. hl k (rw source_count at l);
         user_roles = λ u l. hr u (rw src.users at l);
         role_users = λ k l. hu k (rw source_count at l);
       }
 
--- ---- the whole index, stored region by region
-
-pub indexed : (ρ : Roles) (index low roles users : List ℕ) → length index ≡ index_length → length low ≡ 256 → length roles ≡ 256 → length users ≡ 256
-    → Tabled ρ low roles users → Indexed ρ (put_at (put_at (put_at index users_start users) lower_start low) roles_start roles)
-indexed ρ index low roles users li ll lr lu t =
-    let first = put_at index users_start users in
-    let second = put_at first lower_start low in
-    let e1 : length first ≡ index_length = length-put_at index users_start users ∙ li in
-    let e2 : length second ≡ index_length = length-put_at first lower_start low ∙ e1 in
-    record {
-      size = length-put_at second roles_start roles ∙ e2;
-      lower_roles = rw (part_before second roles_start roles lower_start 256 (omega arith), part_stored first lower_start low 256 ll (omega arith)) t.lower_roles;
-      user_roles = rw (part_stored second roles_start roles 256 lr (omega arith)) t.user_roles;
-      role_users =
-          rw (part_behind second roles_start roles users_start 256 (omega arith), part_behind first lower_start low users_start 256 (omega arith), part_stored index users_start users 256 lu (omega arith))
-          t.role_users;
-    }
+-- the row of a user, in the record
+pub row_in : (st : State) (ws : List ℕ) → SourceOf st ws → (u : ℕ) → u < get_or ws 0 0 → set_at 4 ws (crew_start + 4 * u) ≡ get_or st.rows u 0
+row_in st ws src u l = sym (get_d_rows_at (get_or ws 0 0) ws crew_start u l) ∙ source_row st _ _ _ _ src u
 
 -- words that are zero hold the empty set
 pub set_at-zero : (w : ℕ) (ws : List ℕ) (at : ℕ) → ((j : ℕ) → j < w → get_or ws (at + j) 0 ≡ 0) → set_at w ws at ≡ 0

@@ -1,35 +1,34 @@
 -- What the index is filled from, and what it holds on the way.
 -- Assumes nothing.
-use Rattle.std.specs.Prelude.{◌≡◌, ◌⊎◌, List, ℕ, ◌+◌, ◌*◌, ◌≤◌, ◌<◌, length, get_or, take, drop}
+use Rattle.std.specs.Prelude.{◌≡◌, ◌⊎◌, List, ℕ, ◌*◌, ◌≤◌, ◌<◌, length, get_or, take, drop}
 use Rattle.std.proofs.Math.Bool.{So}
 use Rattle.sets.specs.Truth.{◌implies◌, all}
 use Rattle.sets.specs.Sets.{has, collect}
 use Rattle.model.specs.Lists.{set_at, rows_at}
 use Rattle.model.specs.Candidates.{candidates, Growing}
-use Rattle.model.specs.Hierarchy.{Roles, candidate_count, permission_set, authorised_users}
-use Rattle.model.specs.Indexes.{lower, roles_of_user}
+use Rattle.model.specs.Hierarchy.{candidate_count, permission_set}
+use Rattle.model.specs.Indexes.{lower}
 use Rattle.model.specs.State.{State, roles_of}
-use Rattle.model.specs.Record.{Limits, record_length, sets_start}
-use Rattle.tables.specs.Tables.{HoldsSets, table256_length}
+use Rattle.model.specs.Record.{Limits, record_length, crew_start, sets_start}
+use Rattle.tables.specs.Tables.{table256_length}
 
--- a record whose header keeps the bounds and whose candidates grow; the rows that give members stand from place `at` on, in the record
-pub record FillsFrom (ws : List ℕ) (at : ℕ) : Type 0 where
+-- a record whose header keeps the bounds and whose candidates grow
+pub record FillsFrom (ws : List ℕ) : Type 0 where
   pub size : length ws ≡ record_length
-  pub inside : at + 4 * get_or ws 0 0 ≤ record_length
   pub few_users : get_or ws 0 0 ≤ 128
   pub few_candidates : get_or ws 2 0 ≤ 128
   pub grows : Growing (rows_at (get_or ws 2 0) (take table256_length (drop sets_start ws)) 0)
 
--- the state's crew rows are the n rows from place `at` on, and its candidates the c sets of the table
-pub record Source (st : State) (crew : List ℕ) (at n : ℕ) (table : List ℕ) (c : ℕ) : Type 0 where
+-- the state's crew rows are the n sets of `crew`, and its candidates the c sets of the table
+pub record Source (st : State) (crew : List ℕ) (n : ℕ) (table : List ℕ) (c : ℕ) : Type 0 where
   pub limits : Limits st
   pub users : st.users ≡ n
-  pub rows : st.rows ≡ rows_at n crew at
+  pub rows : st.rows ≡ crew
   pub sets : candidates st.rows ≡ rows_at c table 0
 
--- the same of a record: n and c are its words 0 and 2, and the table is its region of candidates
-abbrev pub SourceOf : State → List ℕ → ℕ → Type 0
-SourceOf st ws at = Source st ws at (get_or ws 0 0) (take table256_length (drop sets_start ws)) (get_or ws 2 0)
+-- the same of a record: n and c are its words 0 and 2, and the crew and the table are its regions of rows and of candidates
+abbrev pub SourceOf : State → List ℕ → Type 0
+SourceOf st ws = Source st (rows_at (get_or ws 0 0) ws crew_start) (get_or ws 0 0) (take table256_length (drop sets_start ws)) (get_or ws 2 0)
 
 -- the own roles met among the first n users: `roles` are some users' rows, and have their lower candidates in `low`; `users` has such a user for
 -- each of them
@@ -46,9 +45,3 @@ shared_by ws us = collect 128 (λ j. all 128 (λ u. has us u implies has (set_at
 pub record Zeros (n : ℕ) (ws : List ℕ) : Type 0 where
   pub size : length ws ≡ n
   pub all_zero : (i : ℕ) → get_or ws i 0 ≡ 0
-
--- the three tables that an index is made of
-pub record Tabled (ρ : Roles) (low roles users : List ℕ) : Type 0 where
-  pub lower_roles : HoldsSets 2 (candidate_count ρ) (lower ρ) low
-  pub user_roles : HoldsSets 2 ρ.users (roles_of_user ρ) roles
-  pub role_users : HoldsSets 2 (candidate_count ρ) (authorised_users ρ) users

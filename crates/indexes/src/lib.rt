@@ -1,10 +1,10 @@
 // The index of a record: what a call computes once beside it, and then only reads.
 #![tactic(auto)]
 
-mod layout;
+mod index;
 mod own;
 mod shared;
 mod state;
 
-pub use layout::{HOLDERS, INDEX_LENGTH, LOWER, ROLES, USERS};
+pub use index::{Holders, Index};
 pub use state::fill_index;

@@ -1,21 +1,20 @@
 // Which roles lie below a role that is nobody's row. It is the intersection of the rows that contain it, so they are those that the users of these
 // rows share.
-ghost use Rattle.std.specs.Prelude.{◌≡◌, ◌≤◌, length};
+ghost use Rattle.std.specs.Prelude.{◌≡◌, ◌≤◌};
 ghost use Rattle.sets.specs.Held.{set_of};
 ghost use Rattle.model.specs.Hierarchy.{candidate_count, authorised_users};
 ghost use Rattle.model.specs.Indexes.{lower, roles_of_user};
 ghost use Rattle.model.specs.State.{State, roles_of};
 ghost use Rattle.model.specs.Record.{Limits};
-ghost use Rattle.tables.specs.Tables.{HoldsSets, table128_length};
+ghost use Rattle.tables.specs.Tables.{HoldsSets};
 ghost use Rattle.indexes.specs.Tables.{Owned, shared_by};
 
 use crate::own::Own;
 use sets::Set128;
-use tables::{load, store};
+use tables::{Table128, load, store};
 
 // The roles that all of these users have.
-fn shared(roles: &[u64], users: Set128) -> Set128
-    requires { length roles.now ≡ table128_length }
+fn shared(roles: &Table128, users: Set128) -> Set128
     ensures { set_of result ≡ shared_by roles.now (set_of users) }
 {
     let mut left = Set128::below(128);
@@ -26,8 +25,8 @@ fn shared(roles: &[u64], users: Set128) -> Set128
 }
 
 // The entries of the roles that are nobody's row. One user for each row is asked.
-pub fn fill_shared(roles: &[u64], users: &[u64], own: Own, c: usize, low: &mut [u64])
-    requires { (length roles.now ≡ table128_length) × (length users.now ≡ table128_length) × (length low.old ≡ table128_length) × (c ≤ 128) }
+pub fn fill_shared(roles: &Table128, users: &Table128, own: Own, c: usize, low: &mut Table128)
+    requires { c ≤ 128 }
     ensures { (st : State) → Limits st → candidate_count (roles_of st) ≡ c → HoldsSets 2 st.users (roles_of_user (roles_of st)) roles.now → HoldsSets 2 c (authorised_users (roles_of st)) users.now → Owned st st.users low.old (set_of own.roles) (set_of own.users) → HoldsSets 2 c (lower (roles_of st)) low.new }
 {
     let known = own.roles;

@@ -1,15 +1,15 @@
 // The limits of a crew list, and what they refuse.
 #![tactic(auto)]
 
-ghost use Rattle.std.specs.Prelude.{◌≡◌, ◌+◌, ◌*◌, ◌≤◌, length};
-ghost use Rattle.model.specs.Lists.{rows_at};
+ghost use Rattle.std.specs.Prelude.{◌≡◌, ◌≤◌};
 ghost use Rattle.model.specs.State.{within_limits, rows_within};
 ghost use Rattle.model.specs.Refusals.{limits_refusal, crew_refusal};
 ghost use Rattle.refusals.specs.Numbers.{code_of};
+ghost use Rattle.tables.specs.Rows.{rows_of};
 
 use refusals::Refusal;
 use sets::Set256;
-use tables::load;
+use tables::crew_rows;
 
 // Whether the numbers of users and of permissions are from 1 to 128 and from 1 to 256.
 #[tactic(auto, using(crate::proofs::Within::limits))]
@@ -19,14 +19,14 @@ pub fn limits_kept(n: u64, m: u64) -> bool
     matches!((n, m), (1..=128, 1..=256))
 }
 
-// Whether no row of the n users has a permission at m or above.
-pub fn rows_within(crew: &[u64], at: usize, n: usize, m: usize) -> bool
-    requires n_in_bounds { at + 4 * n ≤ length crew.now }
+// Whether no row has a permission at m or above.
+pub fn rows_within(rows: &[[u64; 4]], m: usize) -> bool
     requires m_bound { m ≤ 256 }
-    ensures { result ≡ rows_within m (rows_at n crew.now at) }
+    ensures { result ≡ rows_within m (rows_of rows.now) }
 {
     let inside = Set256::below(m);
-    (0..n).all(|u| load(crew, at + 4 * u).is_subset(inside))
+    rows.iter()
+        .all(|row| Set256::from_words(*row).is_subset(inside))
 }
 
 // Refuses numbers outside their limits.
@@ -48,7 +48,7 @@ pub fn crew_refusal(n: usize, m: usize, crew: &[u64]) -> Result<(), Refusal>
     if crew.len() != 4 * n {
         return Err(Refusal::Crew);
     }
-    if !rows_within(crew, 0, n, m) {
+    if !rows_within(crew_rows(crew, 0, n), m) {
         return Err(Refusal::Crew);
     }
     Ok(())

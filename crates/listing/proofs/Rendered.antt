@@ -29,7 +29,7 @@ use Rattle.model.proofs.Refusals.{fit_then, weights_check}
 use Rattle.model.proofs.Calls.{told_code}
 use Rattle.model.proofs.Claim.{claim}
 use Rattle.indexes.proofs.Sources.{narrow}
-use Rattle.quality.specs.Numbers.{weights_of, tolerance_of}
+use Rattle.quality.specs.Given.{weights_of, tolerance_of}
 use Rattle.stores.specs.Stores.{put_at}
 use Rattle.refusals.specs.declared.Refusal.{Refusal}
 use Rattle.refusals.proofs.Numbers.{some_number}

@@ -1,9 +1,11 @@
 -- What the functions promise of their answers, by the answers' cases. A table t with k sets has them at `rows_at k t 0`.
 -- Assumes nothing.
-use Rattle.std.specs.Prelude.{◌≡◌, Bool, true, false, ◌≢◌, ◌⊎◌, List, ℕ, ◌+◌, ◌*◌, ◌≤◌, ◌<◌, length, get_or, Option, Some, None}
+use Rattle.std.specs.Prelude.{◌≡◌, Bool, true, false, ◌≢◌, ◌⊎◌, List, ℕ, ◌+◌, ◌*◌, ◌≤◌, ◌<◌, length, get_or, map, Option, Some, None}
 use Rattle.sets.specs.Words.{word}
+use Rattle.sets.specs.Held.{set_of}
+use Rattle.sets.specs.declared.set.Set.{Set}
 use Rattle.model.specs.Candidates.{Listed}
-use Rattle.model.specs.Lists.{set_at, rows_at}
+use Rattle.model.specs.Lists.{rows_at}
 use Rattle.tables.specs.Tables.{table256_length}
 
 -- a table of 512 words with k sets: there are at most 128, and zeros follow them
@@ -35,22 +37,25 @@ Mines xs t None = 128 < length xs
 
 -- ---- the meets that were seen
 
+-- the sets in the slots
+unfoldable pub sets_of : List (Set 4) → List ℕ
+sets_of slots = map set_of slots
+
 -- each slot is empty or has one of the sets xs
 pub record Seen (slots xs : List ℕ) : Type 0 where
-  pub size : length slots ≡ table256_length
-  pub listed : (s : ℕ) → s < 128 → (set_at 4 slots (4 * s) ≡ 0) ⊎ Listed xs (set_at 4 slots (4 * s))
+  pub listed : (s : ℕ) → s < 128 → (get_or slots s 0 ≡ 0) ⊎ Listed xs (get_or slots s 0)
 
 -- what is told of y, the meet of a row and x: it is x, empty, or in a slot; or it is not empty
 abbrev pub Known : List ℕ → ℕ → ℕ → Bool → Type 0
-Known slots x y true = (y ≡ x) ⊎ ((y ≡ 0) ⊎ ((s : ℕ) × (s < 128) × (y ≡ set_at 4 slots (4 * s))))
+Known slots x y true = (y ≡ x) ⊎ ((y ≡ 0) ⊎ ((s : ℕ) × (s < 128) × (y ≡ get_or slots s 0)))
 Known slots x y false = y ≢ 0
 
 -- x stands in one of the slots, and the others are as they were
 pub record Remembered (x : ℕ) (slots slots' : List ℕ) : Type 0 where
   pub slot : ℕ
   pub below : slot < 128
-  pub there : set_at 4 slots' (4 * slot) ≡ x
-  pub others : (s : ℕ) → s ≢ slot → set_at 4 slots' (4 * s) ≡ set_at 4 slots (4 * s)
+  pub there : get_or slots' slot 0 ≡ x
+  pub others : (s : ℕ) → s ≢ slot → get_or slots' s 0 ≡ get_or slots s 0
 
 -- a table that was to hold xs, with the slots
 abbrev pub Adds : List ℕ → List ℕ → List ℕ → Option ℕ → Type 0

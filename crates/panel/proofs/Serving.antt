@@ -21,7 +21,7 @@ use Rattle.model.specs.Claim.{words_after, replies_given}
 use Rattle.model.proofs.Steps.{mining_fit}
 use Rattle.model.proofs.Calls.{mine_code, mine_accepted, mine_refused}
 use Rattle.model.proofs.Claim.{built_claim}
-use Rattle.quality.specs.Numbers.{weights_of, tolerance_of}
+use Rattle.quality.specs.Given.{weights_of, tolerance_of}
 use Rattle.stores.specs.Stores.{put_at}
 use Rattle.refusals.specs.declared.Refusal.{Refusal}
 use Rattle.refusals.specs.Numbers.{number_of}

@@ -5,7 +5,7 @@ use Rattle.model.specs.Machine as model
 use Rattle.model.specs.Machine.{reply}
 use Rattle.model.specs.Machine.Call.{strike, restore, eliminate, review}
 use Rattle.model.specs.Calls.{Edited}
-use Rattle.quality.specs.Numbers.{weights_in, tolerance_in}
+use Rattle.quality.specs.Given.{weights_of, tolerance_of}
 use Rattle.refusals.specs.declared.Refusal.{Refusal}
 use Rattle.refusals.specs.Numbers.{number_of}
 use Rattle.panel.specs.declared.list.Call.{Call}
@@ -15,8 +15,8 @@ use Rattle.panel.specs.declared.list.Done.{Done}
 abbrev pub call_of : Call → model.Call
 call_of (Strike k) = strike k
 call_of (Restore k) = restore k
-call_of (Eliminate w t) = eliminate (weights_in w) (tolerance_in t)
-call_of (Review w) = review (weights_in w)
+call_of (Eliminate w1 w2 w3 w4 a b) = eliminate (weights_of w1 w2 w3 w4) (tolerance_of a b)
+call_of (Review w1 w2 w3 w4) = review (weights_of w1 w2 w3 w4)
 
 abbrev pub done_result : Result Done Refusal → List ℕ → Edited
 done_result (Ok done) ws = record { replied = reply 0 done.changed done.examined; words = ws }

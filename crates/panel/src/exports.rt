@@ -4,7 +4,7 @@ ghost use Rattle.std.specs.Prelude.{◌≡◌};
 ghost use Rattle.model.specs.Calls.{mine, edit, quality_of, may_of};
 ghost use Rattle.model.specs.Machine.Call.{strike, restore, eliminate, review};
 ghost use Rattle.model.specs.Conditions.{MiningConditions, StrikeConditions, RestoreConditions, EliminateConditions, ReviewConditions, QualityConditions, MayConditions};
-ghost use Rattle.quality.specs.Numbers.{weights_of, tolerance_of};
+ghost use Rattle.quality.specs.Given.{weights_of, tolerance_of};
 ghost use Rattle.text_crew.specs.Conditions.{ReadConditions};
 ghost use Rattle.text_crew.specs.Reader.{read_result, read_crew};
 ghost use Rattle.call_mine.specs.Results.{mine_result};

@@ -10,7 +10,6 @@ ghost use Rattle.panel.specs.declared.list.NotServed.TheVariants.{Refused};
 
 use crate::exports::{panel_eliminate, panel_mine, panel_restore, panel_review, panel_strike};
 use calls_list::{ANSWER, CALL, can_read};
-use quality::{Tolerance, Weights};
 use refusals::Refusal;
 use tables::copy;
 
@@ -29,13 +28,25 @@ impl From<Refusal> for NotServed {
     }
 }
 
-// One call of a list.
+// One call of a list, with its numbers as they stand there: whether they are in range the call itself judges.
 #[derive(Clone, Copy)]
 enum Call {
     Strike(u64),
     Restore(u64),
-    Eliminate(Weights, Tolerance),
-    Review(Weights),
+    Eliminate {
+        w1: u64,
+        w2: u64,
+        w3: u64,
+        w4: u64,
+        a: u64,
+        b: u64,
+    },
+    Review {
+        w1: u64,
+        w2: u64,
+        w3: u64,
+        w4: u64,
+    },
 }
 
 // How many roles a call struck or restored in its passes, and how many it examined there.
@@ -51,23 +62,23 @@ fn read_call(calls: &[u64], at: usize) -> Call
     ensures { call_of result ≡ call_at calls.now at }
 {
     let x = calls[at + 1];
-    let weights = Weights {
-        role: x,
-        member: calls[at + 2],
-        permission: calls[at + 3],
-        link: calls[at + 4],
-    };
     match calls[at] {
         0 => Call::Strike(x),
         1 => Call::Restore(x),
-        2 => Call::Eliminate(
-            weights,
-            Tolerance {
-                numerator: calls[at + 5],
-                denominator: calls[at + 6],
-            },
-        ),
-        _ => Call::Review(weights),
+        2 => Call::Eliminate {
+            w1: x,
+            w2: calls[at + 2],
+            w3: calls[at + 3],
+            w4: calls[at + 4],
+            a: calls[at + 5],
+            b: calls[at + 6],
+        },
+        _ => Call::Review {
+            w1: x,
+            w2: calls[at + 2],
+            w3: calls[at + 3],
+            w4: calls[at + 4],
+        },
     }
 }
 
@@ -90,23 +101,22 @@ fn serve_call(rec: &mut [u64], call: Call) -> Result<Done, Refusal>
                 examined: 0,
             })
         }
-        Call::Eliminate(w, t) => {
-            let done = panel_eliminate(
-                rec,
-                w.role,
-                w.member,
-                w.permission,
-                w.link,
-                t.numerator,
-                t.denominator,
-            )?;
+        Call::Eliminate {
+            w1,
+            w2,
+            w3,
+            w4,
+            a,
+            b,
+        } => {
+            let done = panel_eliminate(rec, w1, w2, w3, w4, a, b)?;
             Ok(Done {
                 changed: done.removed,
                 examined: done.examined,
             })
         }
-        Call::Review(w) => {
-            let done = panel_review(rec, w.role, w.member, w.permission, w.link)?;
+        Call::Review { w1, w2, w3, w4 } => {
+            let done = panel_review(rec, w1, w2, w3, w4)?;
             Ok(Done {
                 changed: done.restored,
                 examined: done.examined,

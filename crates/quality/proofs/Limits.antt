@@ -1,40 +1,32 @@
 -- The limits of weights and tolerance, and no product or sum of the quality wraps.
 -- Assumes nothing.
-use mathlib.Core.Path.{◌≡◌, refl, sym}
-use mathlib.Core.Bool.{false, So, ◌&&◌}
+use mathlib.Core.Path.{◌≡◌, sym}
+use mathlib.Core.Bool.{false, So}
 use mathlib.Core.Logic.{◌↔◌}
-use Prim.Native.Nat.{◌*◌, ◌≤◌}
+use Prim.Native.Nat.{ℕ, ◌*◌, ◌≤◌}
 use native.Mathlib.Nat.{mul-le-mul}
-use lib.Dec.{leb}
-use Rattle.sets.proofs.Truth.{same_test, not-So, leb_iff}
-use Rattle.sets.proofs.Written.{both_test}
-use Rattle.model.specs.Quality as model
-use Rattle.model.specs.Quality.{tolerance_allowed}
+use Rattle.sets.proofs.Truth.{not-So}
+use Rattle.model.specs.Quality.{weights_allowed, tolerance_allowed}
 use Rattle.model.proofs.Bounds.{weights_allowed_iff, tolerance_iff}
 use Rattle.quality.specs.declared.counts.Counts.{Counts}
 use Rattle.quality.specs.declared.weights.Weights.{Weights}
-use Rattle.quality.specs.declared.weights.Tolerance.{Tolerance}
-use Rattle.quality.specs.Numbers.{weights_in, tolerance_in, Few}
+use Rattle.quality.specs.Given.{weights_of, tolerance_of}
+use Rattle.quality.specs.Numbers.{Few}
 
-pub allowed_test : (w : Weights) → (leb w.role 1000 && leb w.member 1000 && leb w.permission 1000 && leb w.link 1000) ≡ model.weights_allowed (weights_in w)
-unfolding model.weights_allowed weights_in
-allowed_test w = rw (both_test, both_test, both_test) refl
+-- the weights and the tolerance, test by test
+pub weights_read : (w1 w2 w3 w4 : ℕ) → So (weights_allowed (weights_of w1 w2 w3 w4)) ↔ ((w1 ≤ 1000) × (w2 ≤ 1000) × (w3 ≤ 1000) × (w4 ≤ 1000))
+unfolding weights_of
+weights_read w1 w2 w3 w4 = weights_allowed_iff (weights_of w1 w2 w3 w4)
 
--- the tolerance, test by test
-tolerance_read : (t : Tolerance)
-    → So (tolerance_allowed (tolerance_in t)) ↔ ((1 ≤ t.denominator) × (t.denominator ≤ 1000) × (t.denominator ≤ t.numerator) × (t.numerator ≤ 2 * t.denominator))
-unfolding tolerance_in
-tolerance_read t = tolerance_iff (tolerance_in t)
+pub tolerance_read : (a b : ℕ) → So (tolerance_allowed (tolerance_of a b)) ↔ ((1 ≤ b) × (b ≤ 1000) × (b ≤ a) × (a ≤ 2 * b))
+unfolding tolerance_of
+tolerance_read a b = tolerance_iff (tolerance_of a b)
 
-module _ (t : Tolerance) where
-  pub tolerance_not : ((1 ≤ t.denominator) × (t.denominator ≤ 1000) × (t.denominator ≤ t.numerator) × (t.numerator ≤ 2 * t.denominator) → ⊥)
-      → false ≡ tolerance_allowed (tolerance_in t)
-  tolerance_not d = sym (not-So (tolerance_allowed (tolerance_in t)) (λ h. d ((tolerance_read t).0 h)))
+pub weights_not : (w1 w2 w3 w4 : ℕ) → ((w1 ≤ 1000) × (w2 ≤ 1000) × (w3 ≤ 1000) × (w4 ≤ 1000) → ⊥) → false ≡ weights_allowed (weights_of w1 w2 w3 w4)
+weights_not w1 w2 w3 w4 d = sym (not-So (weights_allowed (weights_of w1 w2 w3 w4)) (λ h. d ((weights_read w1 w2 w3 w4).0 h)))
 
-  pub tolerance_last : 1 ≤ t.denominator → t.denominator ≤ 1000 → t.denominator ≤ t.numerator → leb t.numerator (2 * t.denominator) ≡ tolerance_allowed (tolerance_in t)
-  tolerance_last x y z =
-      same_test (leb t.numerator (2 * t.denominator)) (tolerance_allowed (tolerance_in t))
-      (λ h. (tolerance_read t).1 (x, y, z, (leb_iff t.numerator (2 * t.denominator)).0 h)) (λ h. (leb_iff t.numerator (2 * t.denominator)).1 ((tolerance_read t).0 h).3)
+pub tolerance_not : (a b : ℕ) → ((1 ≤ b) × (b ≤ 1000) × (b ≤ a) × (a ≤ 2 * b) → ⊥) → false ≡ tolerance_allowed (tolerance_of a b)
+tolerance_not a b d = sym (not-So (tolerance_allowed (tolerance_of a b)) (λ h. d ((tolerance_read a b).0 h)))
 
 -- each product is small
 pub record Products (q : Counts) (w : Weights) : Type 0 where
@@ -43,10 +35,9 @@ pub record Products (q : Counts) (w : Weights) : Type 0 where
   pub third : w.permission * q.permissions ≤ 32768000
   pub fourth : w.link * q.links ≤ 16384000
 
-pub products : (q : Counts) (w : Weights) → Few q → So (model.weights_allowed (weights_in w)) → Products q w
-unfolding weights_in
-products q w few allowed =
-    let x = (weights_allowed_iff (weights_in w)).0 allowed in
+pub products : (q : Counts) (w : Weights) → Few q → Products q w
+products q w few =
+    let x = (weights_read w.role w.member w.permission w.link).0 w.allowed in
     record {
       first = mul-le-mul x.0 few.roles;
       second = mul-le-mul x.1 few.members;

@@ -3,12 +3,12 @@
 use mathlib.Core.Path.{◌≡◌, sym, ◌∙◌, ap, ap₂}
 use mathlib.Core.List.{List}
 use Prim.Native.Nat.{ℕ, suc, ◌+◌, ◌*◌, ◌^◌, ◌≤◌, ◌<◌}
-use native.Mathlib.Nat.{mul-suc, suc-mul, mul-zero, mul-le-mul_left, add_comm, not-suc-le-zero}
+use native.Mathlib.Nat.{mul-suc, suc-mul, mul-le-mul_left, add_comm, not-suc-le-zero}
 use native.Mathlib.Omega.{arith}
 use lib.Count.{ones, ones-le}
 use lib.ListN.{get_or, take, drop}
 use Rattle.sets.specs.Truth.{total}
-use Rattle.sets.proofs.Truth.{either, total_same}
+use Rattle.sets.proofs.Truth.{total_same}
 use Rattle.sets.proofs.Counts.{total-suc, total-zero}
 use Rattle.model.specs.Lists.{set_at}
 use Rattle.model.specs.Quality as model

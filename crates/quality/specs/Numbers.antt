@@ -16,13 +16,6 @@ weights_in w = record { per_role = w.role; per_member = w.member; per_permission
 unfoldable pub tolerance_in : Tolerance → model.Tolerance
 tolerance_in t = record { numerator = t.numerator; denominator = t.denominator }
 
--- the weights w1 to w4 and the tolerance a/b of a call
-unfoldable pub weights_of : ℕ → ℕ → ℕ → ℕ → model.Weights
-weights_of w1 w2 w3 w4 = record { per_role = w1; per_member = w2; per_permission = w3; per_link = w4 }
-
-unfoldable pub tolerance_of : ℕ → ℕ → model.Tolerance
-tolerance_of a b = record { numerator = a; denominator = b }
-
 -- how large the counts can be, whatever words the record holds: at most 128 roles, with 128 members, 256 permissions and 128 links each
 abbrev pub most_roles : ℕ
 most_roles = 128

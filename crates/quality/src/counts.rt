@@ -3,11 +3,11 @@ ghost use Rattle.std.specs.Prelude.{◌≡◌, ◌*◌, ◌≤◌, length, get_o
 ghost use Rattle.std.specs.Int.Count.{ones};
 ghost use Rattle.sets.specs.Truth.{total};
 ghost use Rattle.model.specs.Lists.{set_at};
-ghost use Rattle.model.specs.Record.{record_length, role_rows_of};
+ghost use Rattle.model.specs.Record.{role_rows_of};
 ghost use Rattle.model.specs.Quality as model;
-ghost use Rattle.quality.specs.Numbers.{counts_in, most_direct_permissions, most_links, Few};
+ghost use Rattle.quality.specs.Numbers.{counts_in, Few};
 
-use tables::{JUNIORS, LENGTH, MEMBERS, PERMISSIONS, STANDING, load};
+use tables::{JUNIORS, LENGTH, MEMBERS, PERMISSIONS, Record, STANDING, load};
 
 #[derive(Clone, Copy)]
 pub struct Counts {
@@ -18,8 +18,7 @@ pub struct Counts {
 }
 
 // The counts over the rows of the record's roles.
-pub fn count_rows(rec: &[u64]) -> Counts
-    requires rec_len { length rec.now ≡ record_length }
+pub fn count_rows(rec: &Record) -> Counts
     requires rec_bound { get_or rec.now 2 0 ≤ 128 }
     ensures result_value { counts_in result ≡ model.counted (get_or rec.now 2 0) (role_rows_of rec.now) (set_at 2 rec.now 4) }
     ensures few { Few result }

@@ -2,7 +2,9 @@
 #![tactic(auto)]
 
 mod counts;
+mod weighing;
 mod weights;
 
 pub use counts::{Counts, count_rows};
-pub use weights::{Tolerance, Weights, tolerance_allowed, weigh, weights_allowed};
+pub use weighing::weigh;
+pub use weights::{Tolerance, Weights};

@@ -1,11 +1,8 @@
-// The weights of a quality, and the tolerance of an elimination.
-ghost use Rattle.std.specs.Prelude.{◌≡◌, ◌≤◌};
+// The weights of a quality, and the tolerance of an elimination: every value of these types is in its range.
+ghost use Rattle.std.specs.Prelude.{◌≡◌, is_some, IfSome};
 ghost use Rattle.std.proofs.Math.Bool.{So};
-ghost use Rattle.model.specs.Quality as model;
-ghost use Rattle.model.specs.Quality.{tolerance_allowed};
-ghost use Rattle.quality.specs.Numbers.{counts_in, weights_in, tolerance_in, most_quality, Few};
-
-use crate::counts::Counts;
+ghost use Rattle.model.specs.Quality.{weights_allowed, tolerance_allowed};
+ghost use Rattle.quality.specs.Given.{weights_of, tolerance_of};
 
 const MOST_WEIGHT: u64 = 1000;
 
@@ -16,6 +13,32 @@ pub struct Weights {
     pub member: u64,
     pub permission: u64,
     pub link: u64,
+    pub ghost allowed: { So (weights_allowed (weights_of role member permission link)) },
+}
+
+impl Weights {
+    ghost use Rattle.quality.specs.Numbers.{weights_in};
+
+    // None where a weight is above 1,000.
+    pub fn new(role: u64, member: u64, permission: u64, link: u64) -> Option<Weights>
+        ensures when { is_some result ≡ weights_allowed (weights_of role member permission link) }
+        ensures value { IfSome result (λ w. weights_in w ≡ weights_of role member permission link) }
+    {
+        if role <= MOST_WEIGHT
+            && member <= MOST_WEIGHT
+            && permission <= MOST_WEIGHT
+            && link <= MOST_WEIGHT
+        {
+            Some(Weights {
+                role,
+                member,
+                permission,
+                link,
+            })
+        } else {
+            None
+        }
+    }
 }
 
 // The tolerance a/b.
@@ -23,32 +46,28 @@ pub struct Weights {
 pub struct Tolerance {
     pub numerator: u64,
     pub denominator: u64,
+    pub ghost allowed: { So (tolerance_allowed (tolerance_of numerator denominator)) },
 }
 
-pub fn weights_allowed(w: Weights) -> bool
-    ensures { result ≡ model.weights_allowed (weights_in w) }
-{
-    (w.role <= MOST_WEIGHT)
-        & (w.member <= MOST_WEIGHT)
-        & (w.permission <= MOST_WEIGHT)
-        & (w.link <= MOST_WEIGHT)
-}
+impl Tolerance {
+    ghost use Rattle.quality.specs.Numbers.{tolerance_in};
 
-// Whether a/b lies from 1 to 2, with b from 1 to 1,000. b is judged before 2b is formed.
-pub fn tolerance_allowed(t: Tolerance) -> bool
-    ensures { result ≡ tolerance_allowed (tolerance_in t) }
-{
-    let a = t.numerator;
-    let b = t.denominator;
-    1 <= b && b <= 1000 && b <= a && a <= 2 * b
-}
-
-// At most 1,000 · (128 + 16,384 + 32,768 + 16,384).
-pub fn weigh(q: Counts, w: Weights) -> u64
-    requires few { Few q }
-    requires so { So (model.weights_allowed (weights_in w)) }
-    ensures value { result ≡ model.weigh (weights_in w) (counts_in q) }
-    ensures upper_bound { result ≤ most_quality }
-{
-    w.role * q.roles + w.member * q.members + w.permission * q.permissions + w.link * q.links
+    // None where a/b does not lie from 1 to 2, or b not from 1 to 1,000. b is judged before 2b is formed.
+    pub fn new(a: u64, b: u64) -> Option<Tolerance>
+        ensures when { is_some result ≡ tolerance_allowed (tolerance_of a b) }
+        ensures value { IfSome result (λ t. tolerance_in t ≡ tolerance_of a b) }
+    {
+        if b < 1 || 1000 < b {
+            return None;
+        }
+        let twice = 2 * b;
+        if b <= a && a <= twice {
+            Some(Tolerance {
+                numerator: a,
+                denominator: b,
+            })
+        } else {
+            None
+        }
+    }
 }

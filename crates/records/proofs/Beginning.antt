@@ -3,12 +3,12 @@
 use mathlib.Core.Path.{◌≡◌, refl, sym, ◌∙◌, ap}
 use mathlib.Core.Logic.{◌⊎◌, ⊎_elim}
 use mathlib.Core.List.{List, [], ◌∷◌}
-use Prim.Native.Nat.{ℕ, ◌+◌, ◌-◌, ◌*◌, ◌^◌, ◌≤◌, ◌<◌}
+use Prim.Native.Nat.{ℕ, ◌+◌, ◌*◌, ◌^◌, ◌≤◌, ◌<◌}
 use native.Mathlib.Nat.{lt_of_lt_of_le}
 use native.Mathlib.Omega.{arith}
-use lib.ListN.{length, get_or, set, take, drop, length-drop, get_or-eq_default}
+use lib.ListN.{length, get_or, set, take, drop, get_or-eq_default}
 use lib.Pow.{pow_mono}
-use lib.Seq.{ext_get_or, get_or-take, get_or-drop, length-take-le}
+use lib.Seq.{ext_get_or}
 use Rattle.sets.specs.Words.{word}
 use Rattle.sets.proofs.Truth.{either}
 use Rattle.sets.proofs.Members.{digit}
@@ -60,19 +60,13 @@ only_candidates ws table xs c size zero w =
 
 -- ---- the header and the crew rows
 
-module _ (st : State) (ws crew : List ℕ) (n m c r : ℕ) (d : Described st crew n m c r) (o : OnlyCandidates ws (candidates st.rows))
-    (fits : 4 * n ≤ length crew) (words : (i : ℕ) → get_or crew i 0 < 2 ^ 64) where
+module _ (st : State) (ws rows crew : List ℕ) (n m c r : ℕ) (d : Described st crew n m c r) (o : OnlyCandidates ws (candidates st.rows))
+    (rows_length : length rows ≡ 4 * n) (words : (i : ℕ) → get_or rows i 0 < 2 ^ 64) (are : rows_at n rows 0 ≡ crew) where
   abbrev head : List ℕ
   head = n ∷ m ∷ c ∷ 0 ∷ word r 0 ∷ word r 1 ∷ 0 ∷ 0 ∷ []
 
-  abbrev rows : List ℕ
-  rows = take (4 * n - 0) (drop 0 crew)
-
   abbrev first : List ℕ
   first = put_at ws 0 (n ∷ m ∷ c ∷ 0 ∷ word r 0 ∷ word r 1 ∷ 0 ∷ 0 ∷ [])
-
-  rows_length : length (take (4 * n - 0) (drop 0 crew)) ≡ 4 * n
-  rows_length = length-take-le (4 * n - 0) (drop 0 crew) (rw (length-drop 0 crew) (omega arith)) ∙ (let x : 4 * n - 0 ≡ 4 * n = omega arith in x)
 
   few : n ≤ 128
   few = rw d.users at d.limits.users_most
@@ -89,17 +83,17 @@ module _ (st : State) (ws crew : List ℕ) (n m c r : ℕ) (d : Described st cre
       either u n
       (λ l.
       let x : crew_start + 4 * u + j ≡ crew_start + (4 * u + j) = omega arith in
-      let y : 0 + (4 * u + j) ≡ 0 + 4 * u + j = omega arith in
+      let y : 4 * u + j ≡ 0 + 4 * u + j = omega arith in
       let inside : 4 * u + j < length rows = rw rows_length (omega arith) in
       rw x (put_at_in first crew_start rows (4 * u + j) (rw (rows_length, first_length) (omega arith)) inside)
-      ∙ get_or-take (4 * n - 0) (drop 0 crew) (4 * u + j) 0 (omega arith) ∙ get_or-drop 0 crew (4 * u + j) 0 ∙ ap (λ (i : ℕ). get_or crew i 0) y
-      ∙ word_of 4 crew (0 + 4 * u) j words lj ∙ ap (λ (s : ℕ). word s j) (sym (ap (λ (l : List ℕ). get_or l u 0) d.rows ∙ get_d_rows_at n crew 0 u l)))
+      ∙ ap (λ (i : ℕ). get_or rows i 0) y
+      ∙ word_of 4 rows (0 + 4 * u) j words lj ∙ ap (λ (s : ℕ). word s j) (sym (ap (λ (l : List ℕ). get_or l u 0) (d.rows ∙ sym are) ∙ get_d_rows_at n rows 0 u l)))
       (λ l.
       let far : length st.rows ≤ u = rw (d.limits.rows_count ∙ d.users) l in
       behind (crew_start + 4 * u + j) (omega arith) ∙ o.rest (crew_start + 4 * u + j) (◌⊎◌.inl (omega arith)) ∙ sym (word-zero j)
       ∙ ap (λ (s : ℕ). word s j) (sym (get_or-eq_default st.rows 0 far)))
 
-  pub begun : WithoutRows st (put_at (put_at ws 0 (n ∷ m ∷ c ∷ 0 ∷ word r 0 ∷ word r 1 ∷ 0 ∷ 0 ∷ [])) crew_start (take (4 * n - 0) (drop 0 crew)))
+  pub begun : WithoutRows st (put_at (put_at ws 0 (n ∷ m ∷ c ∷ 0 ∷ word r 0 ∷ word r 1 ∷ 0 ∷ 0 ∷ [])) crew_start rows)
   unfolding permission_set roles_of
   begun =
       let b = few in
@@ -158,16 +152,14 @@ module _ (st : State) (lim : Limits st) (ws : List ℕ) (h : Headed st ws) where
       get_d_rows_at (length xs) table 0 k l ∙ ap (set_at 4 table) z ∙ set_at_part 4 sets_start 512 ws (4 * k) (omega arith)
       ∙ set_at_words 4 (get_or xs k 0) ws (sets_start + 4 * k) (lt_of_lt_of_le ((narrow st lim).inside k l) (pow_mono lim.permissions_most)) (λ j lj. h.sets k j (omega arith) lj))))
 
-  pub headed_source : SourceOf st ws crew_start
+  pub headed_source : SourceOf st ws
   headed_source = record { limits = lim; users = sym head_users; rows = head_rows; sets = head_sets }
 
-  pub headed_fills : FillsFrom ws crew_start
+  pub headed_fills : FillsFrom ws
   headed_fills =
-      let few = lim.users_most in
       record {
         size = h.size;
-        inside = rw head_users (omega arith);
-        few_users = rw head_users few;
+        few_users = rw head_users lim.users_most;
         few_candidates = rw head_count lim.candidates_most;
         grows = rw (sym head_sets) (candidates_growing st.rows);
       }

@@ -7,7 +7,7 @@ use mathlib.Core.List.{List}
 use Prim.Native.Nat.{ℕ, ◌*◌, ◌^◌, ◌≤◌, ◌<◌}
 use native.Mathlib.Nat.{lt_of_lt_of_le}
 use lib.Dec.{eqb}
-use lib.ListN.{get_or, take, drop}
+use lib.ListN.{get_or}
 use Rattle.sets.specs.Truth.{◌and◌, ◌implies◌, all}
 use Rattle.sets.specs.Sets.{has, ◌∩◌}
 use Rattle.sets.proofs.Truth.{same_test, So-not, and_iff, implies_iff, all_iff, eqb_iff, find}
@@ -22,7 +22,8 @@ use Rattle.model.proofs.Reading.{covered_iff, covers_iff}
 use Rattle.model.proofs.Shortcuts.{maximal_iff, roles_of_user_iff, maximal_above}
 use Rattle.hierarchy.specs.Tables.{less_all}
 use Rattle.hierarchy.proofs.Sieving.{less_all_iff}
-use Rattle.indexes.specs.Index.{roles_start, Indexed}
+use Rattle.indexes.specs.declared.index.Index.{Index}
+use Rattle.indexes.specs.Index.{Indexed}
 use Rattle.indexes.specs.Tables.{Source}
 use Rattle.indexes.proofs.Sources.{numbered, source_set, source_count}
 use Rattle.records.specs.Records.{user_roles, each_grant_covered}
@@ -31,7 +32,7 @@ pub users_test : (st : State) → all_covered (roles_of st) st.standing ≡ all 
 unfolding all_covered each_grant_covered roles_of
 users_test st = refl
 
-module _ (st : State) (crew : List ℕ) (at n : ℕ) (table : List ℕ) (c : ℕ) (src : Source st crew at n table c) where
+module _ (st : State) (crew : List ℕ) (n : ℕ) (table : List ℕ) (c : ℕ) (src : Source st crew n table c) where
   user_roles_lem : (u k : ℕ) → So (has (user_roles st u) k) ↔ (So (has (roles_of_user (roles_of st) u) k) × So (has st.standing k))
   unfolding user_roles
   user_roles_lem u k = ∩-iff (roles_of_user (roles_of st) u) st.standing k
@@ -81,11 +82,11 @@ module _ (st : State) (crew : List ℕ) (at n : ℕ) (table : List ℕ) (c : ℕ
   whole_test u x s k y own es t ey same =
       let there : So (has (user_roles st u) k) = rw es at t in
       let few : k < c = rw source_count' at ((roles_of_user_iff (roles_of st) u k).0 ((user_roles_lem u k).0 there).0).0 in
-      let set : permission_set (roles_of st) k ≡ get_or st.rows u 0 = sym (source_set st crew at n table c src k few) ∙ sym ey ∙ same ∙ own in
+      let set : permission_set (roles_of st) k ≡ get_or st.rows u 0 = sym (source_set st crew n table c src k few) ∙ sym ey ∙ same ∙ own in
       sym (grants_covered_lem u (λ p g. (k, there, rw set g)))
     where
       source_count' : candidate_count (roles_of st) ≡ c
-      source_count' = source_count st crew at n table c src
+      source_count' = source_count st crew n table c src
 
   -- nothing of the row is left without the maximal roles' sets exactly when each grant is covered
   pub user_test : (u x js : ℕ) → u < n → x ≡ get_or st.rows u 0 → js ≡ maximal (roles_of st) (user_roles st u)
@@ -104,7 +105,7 @@ module _ (st : State) (crew : List ℕ) (at n : ℕ) (table : List ℕ) (c : ℕ
       (λ (w : (j : ℕ) × (j < 128) × So (has js j and has (set_at 4 table (4 * j)) p)).
       let a = (and_iff (has js w.0) (has (set_at 4 table (4 * w.0)) p)).0 w.2 in
       let jm : So (has (maximal ρ s) w.0) = rw ej at a.0 in
-      (w.0, ((maximal_iff ρ s w.0).0 jm).1, rw (source_set st crew at n table c src w.0 (small w.0 jm)) at a.1))
+      (w.0, ((maximal_iff ρ s w.0).0 jm).1, rw (source_set st crew n table c src w.0 (small w.0 jm)) at a.1))
       (λ f.
       let lp = item_below st.permissions (get_or st.rows u 0) p (src.limits.rows_below u (rw src.users lu)) g in
       absurd
@@ -122,19 +123,19 @@ module _ (st : State) (crew : List ℕ) (at n : ℕ) (table : List ℕ) (c : ℕ
       let up = maximal_above ρ s (user_roles_lt u) (numbered st src.limits).lower w.0 w.1 in
       let lj = small up.0 up.1 in
       a.2 up.0 (lt_of_lt_of_le lj few) (subst (λ (y : ℕ). So (has y up.0)) (sym ej) up.1)
-      (rw (source_set st crew at n table c src up.0 lj) ((subset_iff (permission_set ρ w.0) (permission_set ρ up.0)).0 up.2 p w.2)))))
+      (rw (source_set st crew n table c src up.0 lj) ((subset_iff (permission_set ρ w.0) (permission_set ρ up.0)).0 up.2 p w.2)))))
     where
       source_count' : candidate_count (roles_of st) ≡ c
-      source_count' = source_count st crew at n table c src
+      source_count' = source_count st crew n table c src
 
       few : c ≤ 128
       few = rw source_count' at src.limits.candidates_most
 
-pub users_counted : (st : State) (crew : List ℕ) (at n : ℕ) (table : List ℕ) (c : ℕ) → Source st crew at n table c
+pub users_counted : (st : State) (crew : List ℕ) (n : ℕ) (table : List ℕ) (c : ℕ) → Source st crew n table c
     → all_covered (roles_of st) st.standing ≡ all n (each_grant_covered st)
-users_counted st crew at n table c src = users_test st ∙ ap (λ (k : ℕ). all k (each_grant_covered st)) src.users
+users_counted st crew n table c src = users_test st ∙ ap (λ (k : ℕ). all k (each_grant_covered st)) src.users
 
-pub own_roles_are : (st : State) (n : ℕ) → st.users ≡ n → (index : List ℕ) → Indexed (roles_of st) index
-    → (u x s r : ℕ) → u < n → x ≡ set_at 2 (take 256 (drop roles_start index)) (2 * u) → s ≡ x ∩ r → r ≡ st.standing → s ≡ user_roles st u
+pub own_roles_are : (st : State) (n : ℕ) → st.users ≡ n → (index : Index) → Indexed (roles_of st) index
+    → (u x s r : ℕ) → u < n → x ≡ set_at 2 index.roles (2 * u) → s ≡ x ∩ r → r ≡ st.standing → s ≡ user_roles st u
 unfolding user_roles roles_of
 own_roles_are st n users index ix u x s r lu ex es er = es ∙ ap₂ ◌∩◌ (ex ∙ ix.user_roles u (rw users lu)) er

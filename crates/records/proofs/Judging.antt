@@ -22,6 +22,7 @@ use Rattle.model.specs.Record.{record_length, crew_start, built, state_of, sound
 use Rattle.model.specs.State.{roles_of, fresh, within_limits, rows_within}
 use Rattle.model.proofs.Lists.{length-rows_at}
 use Rattle.model.proofs.Record.{within_limits_iff, rows_within_iff, sound_iff, sound-built}
+use Rattle.indexes.specs.declared.index.Index.{Index}
 use Rattle.indexes.specs.Index.{Indexed}
 use Rattle.rows.specs.Linked.{Linked, Ready}
 use Rattle.rows.specs.Partway.{Headed}
@@ -134,7 +135,7 @@ module _ (ws : List ℕ) (full : length ws ≡ record_length) (lim : Limits (sta
     compared =
         same_test r (sound ws) (λ a. (sound_iff ws).1 (full, lim, sym et ∙ not-false t h, rows.0 a)) (λ s. rows.1 (sound-built ws s))
 
-    pub ready : (index seniors : List ℕ) → Indexed (roles_of (state_of ws)) index → (So r → Linked ws seniors) → So (sound ws) → Ready (state_of ws) ws index seniors
+    pub ready : (index : Index) (seniors : List ℕ) → Indexed (roles_of (state_of ws)) index → (So r → Linked ws seniors) → So (sound ws) → Ready (state_of ws) ws index seniors
     ready index seniors ix linked s =
         record { limits = lim; afresh = sound-built ws s; indexed = ix; linked = linked (compared ∙ s) }
 
@@ -158,8 +159,8 @@ all_standing n m rows c few count =
     (λ k x. let a = (collect_iff c (λ k. true) k).0 x in (collect_iff 128 (λ k. ltb k c) k).1 (let l = a.0 in omega arith, (ltb_iff k c).1 a.0))
     (λ k x. (collect_iff c (λ k. true) k).1 ((ltb_iff k c).0 ((collect_iff 128 (λ k. ltb k c) k).0 x).1, refl)))
 
-pub fresh_described : (n m : ℕ) (crew : List ℕ) (c r : ℕ) → Limits (fresh n m (rows_at n crew 0)) → candidate_count (roles_of (fresh n m (rows_at n crew 0))) ≡ c
-    → r ≡ collect 128 (λ k. ltb k c) → Described (fresh n m (rows_at n crew 0)) crew n m c r
+pub fresh_described : (n m : ℕ) (crew : List ℕ) (c r : ℕ) → Limits (fresh n m crew) → candidate_count (roles_of (fresh n m crew)) ≡ c → r ≡ collect 128 (λ k. ltb k c)
+    → Described (fresh n m crew) crew n m c r
 unfolding fresh
 fresh_described n m crew c r lim count er =
     record {
@@ -168,5 +169,5 @@ fresh_described n m crew c r lim count er =
       permissions = refl;
       rows = refl;
       count = count;
-      standing = all_standing n m (rows_at n crew 0) c (rw count at lim.candidates_most) count ∙ sym er;
+      standing = all_standing n m crew c (rw count at lim.candidates_most) count ∙ sym er;
     }

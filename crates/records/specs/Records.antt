@@ -3,7 +3,6 @@
 use Rattle.std.specs.Prelude.{◌≡◌, Bool, ◌⊎◌, List, ℕ, ◌+◌, ◌*◌, ◌≤◌, ◌<◌, length, get_or}
 use Rattle.sets.specs.Truth.{◌implies◌, all}
 use Rattle.sets.specs.Sets.{◌∩◌}
-use Rattle.model.specs.Lists.{rows_at}
 use Rattle.model.specs.Coverage.{grant, covered}
 use Rattle.model.specs.Hierarchy.{candidate_count}
 use Rattle.model.specs.Indexes.{roles_of_user}
@@ -18,12 +17,12 @@ pub record OnlyCandidates (ws xs : List ℕ) : Type 0 where
   pub sets : Region 4 sets_start (λ k. get_or xs k 0) ws
   pub rest : (i : ℕ) → (i < sets_start) ⊎ (permissions_start ≤ i) → get_or ws i 0 ≡ 0
 
--- a state within the limits whose crew rows are the first n of `crew`, with m permissions, c candidates and the standing set r
+-- a state within the limits whose crew rows are the n sets of `crew`, with m permissions, c candidates and the standing set r
 pub record Described (st : State) (crew : List ℕ) (n m c r : ℕ) : Type 0 where
   pub limits : Limits st
   pub users : st.users ≡ n
   pub permissions : st.permissions ≡ m
-  pub rows : st.rows ≡ rows_at n crew 0
+  pub rows : st.rows ≡ crew
   pub count : candidate_count (roles_of st) ≡ c
   pub standing : st.standing ≡ r
 

@@ -1,17 +1,16 @@
 // Whether a record's header, crew rows and candidates are in order.
-ghost use Rattle.std.specs.Prelude.{◌≡◌, ◌↔◌, ◌≤◌, length, get_or};
+ghost use Rattle.std.specs.Prelude.{◌↔◌, ◌≤◌, get_or};
 ghost use Rattle.std.proofs.Math.Bool.{So};
 ghost use Rattle.model.specs.Candidates.{candidates};
-ghost use Rattle.model.specs.Record.{record_length, state_of};
+ghost use Rattle.model.specs.Record.{state_of};
 ghost use Rattle.mining.specs.Mining.{Written};
 ghost use Rattle.rows.specs.Partway.{Headed};
 ghost use Rattle.records.specs.Records.{UnusedZero};
 
-use tables::{CREW, SETS, equal_at, zeros};
+use tables::{CREW, Record, SETS, equal_at, zeros};
 
 // Whether words 3, 6 and 7 are zero, and what is behind the crew rows of n users.
-fn unused_zero(rec: &[u64], n: usize) -> bool
-    requires rec_len { length rec.now ≡ record_length }
+fn unused_zero(rec: &Record, n: usize) -> bool
     requires n_bound { n ≤ 128 }
     ensures { So result ↔ UnusedZero rec.now n }
 {
@@ -19,8 +18,7 @@ fn unused_zero(rec: &[u64], n: usize) -> bool
 }
 
 // Whether all before the rows is what the record's own state gives. The c candidates of that state are in `table`.
-pub fn is_headed(rec: &[u64], table: &[u64], c: usize) -> bool
-    requires rec_len { length rec.now ≡ record_length }
+pub fn is_headed(rec: &Record, table: &[u64], c: usize) -> bool
     requires rec_bound { get_or rec.now 0 0 ≤ 128 }
     requires written { Written table.now c (candidates (state_of rec.now).rows) }
     ensures { So result ↔ Headed (state_of rec.now) rec.now }

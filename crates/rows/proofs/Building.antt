@@ -14,6 +14,7 @@ use Rattle.model.proofs.Lists.{set_at_words}
 use Rattle.model.proofs.Record.{standing_small, immediate_juniors_lt}
 use Rattle.model.proofs.Steps.{now_same}
 use Rattle.tables.specs.Tables.{Filled}
+use Rattle.indexes.specs.declared.index.Index.{Index}
 use Rattle.indexes.specs.Index.{Indexed}
 use Rattle.rows.specs.Linked.{Linked}
 use Rattle.rows.specs.Partway.{Partway, WithoutRows, Target}
@@ -21,7 +22,7 @@ use Rattle.rows.proofs.Partway.{no_rows, marks, begun, finished}
 use Rattle.rows.proofs.Linking.{columns_turned}
 use Rattle.rows.proofs.Rewriting.{target_below, now_juniors}
 
-module _ (st : State) (lim : Limits st) (index first : List ℕ) (b : WithoutRows st first) (ix : Indexed (roles_of st) index) where
+module _ (st : State) (lim : Limits st) (index : Index) (first : List ℕ) (b : WithoutRows st first) (ix : Indexed (roles_of st) index) where
   count_told : candidate_count (roles_of st) ≡ get_or first 2 0
   unfolding header_word
   count_told = sym (b.headed.head 2 (omega arith))

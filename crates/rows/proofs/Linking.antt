@@ -28,6 +28,7 @@ use Rattle.tables.proofs.Stores.{stored_back}
 use Rattle.tables.proofs.Tables.{beside}
 use Rattle.hierarchy.specs.Tables.{immediate_seniors}
 use Rattle.model.specs.State.{State, roles_of}
+use Rattle.indexes.specs.declared.index.Index.{Index}
 use Rattle.indexes.specs.Index.{Indexed}
 use Rattle.rows.specs.Linked.{Ready, Turned, juniors_in, Linked}
 
@@ -140,5 +141,5 @@ module _ (ρ : Roles) (R : ℕ) (few : candidate_count ρ ≤ 128) (b : R < 2 ^ 
         ap (λ (x : ℕ). has x i) empty ∙ has-zero i ∙ sym (ap (λ (x : ℕ). has x j) (held i li) ∙ has_above c (immediate_juniors ρ R i) j (size i) a))
 
 -- another index of the same roles serves as well
-pub reindexed : (st : State) (ws index index' seniors : List ℕ) → Ready st ws index seniors → Indexed (roles_of st) index' → Ready st ws index' seniors
+pub reindexed : (st : State) (ws : List ℕ) (index index' : Index) (seniors : List ℕ) → Ready st ws index seniors → Indexed (roles_of st) index' → Ready st ws index' seniors
 reindexed st ws index index' seniors h ix = record { limits = h.limits; afresh = h.afresh; indexed = ix; linked = h.linked }

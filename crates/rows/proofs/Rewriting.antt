@@ -26,6 +26,7 @@ use Rattle.stores.specs.Stores.{put_at}
 use Rattle.tables.specs.Stores.{words_of}
 use Rattle.tables.specs.Tables.{HoldsSets}
 use Rattle.hierarchy.specs.Tables.{Numbered, Narrow, immediate_seniors}
+use Rattle.indexes.specs.declared.index.Index.{Index}
 use Rattle.indexes.specs.Index.{LowerRoles, RoleUsers}
 use Rattle.indexes.proofs.Sources.{numbered, narrow}
 use Rattle.rows.specs.Linked.{Turned, juniors_in, Linked}
@@ -34,12 +35,12 @@ use Rattle.rows.proofs.Regions.{still_other, still-none, region_holds, region_re
 use Rattle.rows.proofs.Partway.{juniors_stored, permissions_stored, members_stored}
 use Rattle.rows.proofs.Linking.{linked_same, seniors_held}
 
-pub target_below : (st : State) (R : ℕ) (index : List ℕ) → Target st R index → R < 2 ^ candidate_count (roles_of st)
+pub target_below : (st : State) (R : ℕ) (index : Index) → Target st R index → R < 2 ^ candidate_count (roles_of st)
 target_below st R index to = subst (λ (S : ℕ). S < 2 ^ candidate_count (roles_of st)) to.standing to.limits.standing_below
 
 -- ---- one row as it is computed from what a record holds, whoever stores it or compares it
 
-module _ (st : State) (R : ℕ) (index ws : List ℕ) (to : Target st R index) where
+module _ (st : State) (R : ℕ) (index : Index) (ws : List ℕ) (to : Target st R index) where
   abbrev ρ : Roles
   ρ = roles_of st
 
@@ -68,7 +69,7 @@ module _ (st : State) (R : ℕ) (index ws : List ℕ) (to : Target st R index) w
       let above = seniors_held ρ R n.few below ws held seniors j is l lj ei small in
       members ρ n (narrow st to.limits) to.indexed.role_users below above ∙ ap (λ (S : ℕ). direct_members ρ S j) (sym to.standing)
 
-module _ (old : RoleRows) (st : State) (p t R : ℕ) (index ws : List ℕ) (to : Target st R index) where
+module _ (old : RoleRows) (st : State) (p t R : ℕ) (index : Index) (ws : List ℕ) (to : Target st R index) where
   pub upper_rewritten : (s i js ps : ℕ) (mid after : List ℕ) → i < 128
       → ((ρ : Roles) → Numbered ρ → LowerRoles ρ index → R < 2 ^ candidate_count ρ → js ≡ immediate_juniors ρ R i)
       → ((ρ : Roles) → Numbered ρ → Narrow ρ → HoldsSets 4 (candidate_count ρ) (permission_set ρ) (take 512 (drop sets_start ws)) → R < 2 ^ candidate_count ρ → js ≡ immediate_juniors ρ R i → ps ≡ direct_permissions ρ R i)
@@ -152,7 +153,7 @@ from_more R k =
     )))
 
 -- all candidates are passed
-pub from_all : (st : State) (R k : ℕ) (index : List ℕ) → Target st R index → candidate_count (roles_of st) ≡ k → from R k ≡ 0
+pub from_all : (st : State) (R k : ℕ) (index : Index) → Target st R index → candidate_count (roles_of st) ≡ k → from R k ≡ 0
 unfolding from
 from_all st R k index to e =
     let b : R < 2 ^ k = rw e at (target_below st R index to) in

@@ -5,6 +5,7 @@ use Rattle.sets.specs.Sets.{has}
 use Rattle.model.specs.Lists.{set_at}
 use Rattle.model.specs.Record.{juniors_start, built, Limits}
 use Rattle.model.specs.State.{State, roles_of}
+use Rattle.indexes.specs.declared.index.Index.{Index}
 use Rattle.indexes.specs.Index.{Indexed}
 use Rattle.tables.specs.Tables.{table128_length}
 
@@ -22,7 +23,7 @@ pub record Linked (ws seniors : List ℕ) : Type 0 where
   pub turned : Turned (juniors_in ws) seniors
 
 -- the record built afresh from a state, with its index and its immediate seniors
-pub record Ready (st : State) (ws index seniors : List ℕ) : Type 0 where
+pub record Ready (st : State) (ws : List ℕ) (index : Index) (seniors : List ℕ) : Type 0 where
   pub limits : Limits st
   pub afresh : ws ≡ built st
   pub indexed : Indexed (roles_of st) index

@@ -8,6 +8,7 @@ use Rattle.sets.specs.Words.{word}
 use Rattle.model.specs.Hierarchy.{Roles, permission_set, immediate_juniors, direct_permissions, direct_members, RoleRows}
 use Rattle.model.specs.Record.{record_length, crew_start, sets_start, permissions_start, members_start, juniors_start, header_word, Limits}
 use Rattle.model.specs.State.{State, roles_of}
+use Rattle.indexes.specs.declared.index.Index.{Index}
 use Rattle.indexes.specs.Index.{Indexed}
 
 -- the old entry of k where k is in s, the new one otherwise
@@ -39,7 +40,7 @@ pub record WithoutRows (st : State) (ws : List ℕ) : Type 0 where
   pub zero : (i : ℕ) → permissions_start ≤ i → i < record_length → get_or ws i 0 ≡ 0
 
 -- what is known of the state that a record is on its way to: it is within the limits, R is its standing set, and the index is that of its roles
-pub record Target (st : State) (R : ℕ) (index : List ℕ) : Type 0 where
+pub record Target (st : State) (R : ℕ) (index : Index) : Type 0 where
   pub limits : Limits st
   pub standing : st.standing ≡ R
   pub indexed : Indexed (roles_of st) index

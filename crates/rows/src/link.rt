@@ -1,19 +1,17 @@
 // Immediate juniors rewritten where the table of immediate seniors holds those of the record: it is altered with them.
-ghost use Rattle.std.specs.Prelude.{◌≡◌, ◌≢◌, ℕ, ◌<◌, length};
+ghost use Rattle.std.specs.Prelude.{◌≡◌, ◌≢◌, ℕ, ◌<◌};
 ghost use Rattle.sets.specs.Held.{set_of};
 ghost use Rattle.sets.specs.Sets.{◌∪◌, ◌∖◌, single};
 ghost use Rattle.sets.specs.Truth.{when◌then◌else◌};
 ghost use Rattle.model.specs.Hierarchy.{RoleRows};
-ghost use Rattle.model.specs.Record.{record_length};
 ghost use Rattle.model.specs.State.{State};
-ghost use Rattle.indexes.specs.Index.{index_length};
 ghost use Rattle.rows.specs.Linked.{Turned, Linked};
 ghost use Rattle.rows.specs.Partway.{Partway, Target};
-ghost use Rattle.tables.specs.Tables.{table128_length};
 
 use crate::upper::rewrite_upper;
+use indexes::Index;
 use sets::Set128;
-use tables::{JUNIORS, load, store};
+use tables::{JUNIORS, Record, Table128, load, store};
 
 // The set with the item i, or without it.
 fn with_or_without(s: Set128, i: usize, with: bool) -> Set128
@@ -28,8 +26,7 @@ fn with_or_without(s: Set128, i: usize, with: bool) -> Set128
 
 // Where the juniors of role i were `old` and are `new`, it becomes a senior of those that it gained and none of those that it lost. The others'
 // entries are as they were.
-fn relink(seniors: &mut [u64], i: usize, old: Set128, new: Set128)
-    requires seniors_len { length seniors.old ≡ table128_length }
+fn relink(seniors: &mut Table128, i: usize, old: Set128, new: Set128)
     requires i_bound { i < 128 }
     ensures { (f g : ℕ → ℕ) → Turned f seniors.old → set_of old ≡ f i → set_of new ≡ g i → ((a : ℕ) → a < 128 → a ≢ i → g a ≡ f a) → Turned g seniors.new }
 {
@@ -40,10 +37,7 @@ fn relink(seniors: &mut [u64], i: usize, old: Set128, new: Set128)
 }
 
 // The immediate juniors and direct permissions of role i.
-fn relink_upper(rec: &mut [u64], index: &[u64], seniors: &mut [u64], standing: Set128, i: usize)
-    requires rec_len { length rec.old ≡ record_length }
-    requires index_len { length index.now ≡ index_length }
-    requires seniors_len { length seniors.old ≡ table128_length }
+fn relink_upper(rec: &mut Record, index: &Index, seniors: &mut Table128, standing: Set128, i: usize)
     requires i_bound { i < 128 }
     ensures { (old : RoleRows) (st : State) (s p t : ℕ) → Target st (set_of standing) index.now → Partway old st s p t rec.old → Linked rec.old seniors.old → Partway old st (s ∖ single i) (p ∖ single i) t rec.new × Linked rec.new seniors.new }
 {
@@ -55,15 +49,12 @@ fn relink_upper(rec: &mut [u64], index: &[u64], seniors: &mut [u64], standing: S
 
 // Those of the roles in `roles`.
 pub fn relink_uppers(
-    rec: &mut [u64],
-    index: &[u64],
-    seniors: &mut [u64],
+    rec: &mut Record,
+    index: &Index,
+    seniors: &mut Table128,
     standing: Set128,
     roles: Set128,
 )
-    requires rec_len { length rec.old ≡ record_length }
-    requires index_len { length index.now ≡ index_length }
-    requires seniors_len { length seniors.old ≡ table128_length }
     ensures { (old : RoleRows) (st : State) (t : ℕ) → Target st (set_of standing) index.now → Partway old st (set_of roles) (set_of roles) t rec.old → Linked rec.old seniors.old → Partway old st 0 0 t rec.new × Linked rec.new seniors.new }
 {
     for i in roles.items() {

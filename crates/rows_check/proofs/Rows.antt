@@ -21,6 +21,7 @@ use Rattle.model.proofs.Lists.{length_elems, get_d_elems, set_at_words}
 use Rattle.model.proofs.Record.{permissions_small, members_small, juniors_small, standing_small, immediate_juniors_lt, word_permissions, word_members, word_juniors, built_word}
 use Rattle.tables.specs.Tables.{Filled, ZeroFrom}
 use Rattle.hierarchy.specs.Tables.{Numbered}
+use Rattle.indexes.specs.declared.index.Index.{Index}
 use Rattle.indexes.specs.Index.{LowerRoles, Indexed}
 use Rattle.indexes.proofs.Sources.{numbered}
 use Rattle.rows.specs.Linked.{juniors_in, Linked}
@@ -150,7 +151,7 @@ module _ (st : State) (lim : Limits st) (ws : List ℕ) where
         region_read 2 juniors_start k juniors ws l (juniors_small st lim k) now_juniors ∙ ap (λ (S : ℕ). immediate_juniors (roles_of st) S k) same
 
     -- the columns of its juniors are the seniors
-    pub seniors_linked : (index : List ℕ) (R n : ℕ) (before seniors : List ℕ) → Target st R index → candidate_count (roles_of st) ≡ n → ((i : ℕ) → get_or before i 0 ≡ 0)
+    pub seniors_linked : (index : Index) (R n : ℕ) (before seniors : List ℕ) → Target st R index → candidate_count (roles_of st) ≡ n → ((i : ℕ) → get_or before i 0 ≡ 0)
         → Filled 2 n (λ j. collect n (λ i. has (set_at 2 (take 256 (drop juniors_start ws)) (2 * i)) j)) before seniors → length seniors ≡ 256 → Linked ws seniors
     seniors_linked index R n before seniors to count zero filled size =
         record {
@@ -175,7 +176,7 @@ module _ (st : State) (lim : Limits st) (ws : List ℕ) where
         })
 
 -- the juniors that are computed from the index
-pub juniors_computed : (st : State) (R : ℕ) (index : List ℕ) → Target st R index → (i js : ℕ)
+pub juniors_computed : (st : State) (R : ℕ) (index : Index) → Target st R index → (i js : ℕ)
     → ((ρ : Roles) → Numbered ρ → LowerRoles ρ index → R < 2 ^ candidate_count ρ → js ≡ immediate_juniors ρ R i) → js ≡ immediate_juniors (roles_of st) st.standing i
 juniors_computed st R index to i js juniors =
     juniors (roles_of st) (numbered st to.limits) to.indexed.lower_roles (target_below st R index to) ∙ ap (λ (S : ℕ). immediate_juniors (roles_of st) S i) (sym to.standing)
@@ -187,7 +188,7 @@ module _ (st : State) (ws : List ℕ) (h : Headed st ws) where
   unfolding header_word
   count_told = sym (h.head 2 (omega arith))
 
-  pub standing_told : Limits st → (index : List ℕ) (R : ℕ) → R ≡ set_at 2 ws 4 → Indexed (roles_of st) index → Target st R index
+  pub standing_told : Limits st → (index : Index) (R : ℕ) → R ≡ set_at 2 ws 4 → Indexed (roles_of st) index → Target st R index
   unfolding header_word
   standing_told lim index R e ix =
       let held : set_at 2 ws 4 ≡ st.standing = set_at_words 2 st.standing ws 4 (standing_small st lim) (λ j l. h.head (4 + j) (omega arith) ∙ marks j l) in

@@ -1,21 +1,22 @@
-ghost use Rattle.std.specs.Prelude.{◌≡◌, ◌↔◌, ℕ, ◌≤◌, length, get_or};
+ghost use Rattle.std.specs.Prelude.{◌≡◌, ◌↔◌, ℕ, ◌≤◌, get_or};
 ghost use Rattle.std.proofs.Math.Bool.{So};
-ghost use Rattle.model.specs.Record.{record_length, built, Limits};
+ghost use Rattle.model.specs.Record.{built, Limits};
 ghost use Rattle.model.specs.State.{State, roles_of};
-ghost use Rattle.indexes.specs.Index.{index_length, Indexed};
+ghost use Rattle.indexes.specs.Index.{Indexed};
 ghost use Rattle.rows.specs.Linked.{Linked};
 ghost use Rattle.rows.specs.Partway.{Headed};
 ghost use Rattle.rows_check.specs.Held.{NoneBehind};
-ghost use Rattle.tables.specs.Tables.{table128_length};
 
 use crate::lower::lowers_match;
 use crate::upper::uppers_match;
 use columns::fill_columns;
-use tables::{JUNIORS, LENGTH, MEMBERS, PERMISSIONS, STANDING, load, zeros};
+use indexes::Index;
+use tables::{
+    JUNIORS, LENGTH, MEMBERS, PERMISSIONS, Record, STANDING, Table128, clear, load, zeros,
+};
 
 // Whether there is nothing behind the rows of c roles.
-fn none_behind(rec: &[u64], c: usize) -> bool
-    requires rec_len { length rec.now ≡ record_length }
+fn none_behind(rec: &Record, c: usize) -> bool
     requires c_bound { c ≤ 128 }
     ensures { So result ↔ NoneBehind rec.now c }
 {
@@ -25,12 +26,8 @@ fn none_behind(rec: &[u64], c: usize) -> bool
 }
 
 // Whether a record whose header, crew rows and candidates are in order is built afresh, row by row. Once its juniors are known to be right, the seniors
-// are a transposition of them; they are left in the table, which is of zeros before.
-pub fn rows_match(rec: &[u64], index: &[u64], seniors: &mut [u64]) -> bool
-    requires rec_len { length rec.now ≡ record_length }
-    requires index_len { length index.now ≡ index_length }
-    requires seniors_len { length seniors.old ≡ table128_length }
-    requires by_index { (i : ℕ) → get_or seniors.old i 0 ≡ 0 }
+// are a transposition of them; they are left in the table.
+pub fn rows_match(rec: &Record, index: &Index, seniors: &mut Table128) -> bool
     requires rec_bound { get_or rec.now 2 0 ≤ 128 }
     ensures { (st : State) → Limits st → Headed st rec.now → Indexed (roles_of st) index.now → (So result ↔ (rec.now ≡ built st)) × (So result → Linked rec.now seniors.new) }
 {
@@ -42,6 +39,7 @@ pub fn rows_match(rec: &[u64], index: &[u64], seniors: &mut [u64]) -> bool
     if !uppers_match(rec, index, standing, c) {
         return false;
     }
+    clear(seniors);
     fill_columns(&rec[JUNIORS..LENGTH], c, c, seniors);
     lowers_match(rec, index, seniors, standing, c)
 }

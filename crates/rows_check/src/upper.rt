@@ -1,26 +1,22 @@
 // Immediate juniors and direct permissions.
-ghost use Rattle.std.specs.Prelude.{◌≡◌, ◌↔◌, ℕ, ◌≤◌, ◌<◌, length};
+ghost use Rattle.std.specs.Prelude.{◌↔◌, ℕ, ◌≤◌, ◌<◌};
 ghost use Rattle.std.proofs.Math.Bool.{So};
 ghost use Rattle.sets.specs.Held.{set_of};
-ghost use Rattle.model.specs.Record.{record_length};
 ghost use Rattle.model.specs.State.{State};
-ghost use Rattle.indexes.specs.Index.{index_length};
 ghost use Rattle.rows.specs.Partway.{Headed, Target};
 ghost use Rattle.rows_check.specs.Held.{UpperHeld};
 
 use hierarchy::{juniors_of, permissions_of};
-use indexes::{LOWER, ROLES};
+use indexes::Index;
 use sets::Set128;
-use tables::{JUNIORS, PERMISSIONS, SETS, load};
+use tables::{JUNIORS, PERMISSIONS, Record, SETS, load};
 
 // Those of role k.
-fn upper_matches(rec: &[u64], index: &[u64], standing: Set128, k: usize) -> bool
-    requires rec_len { length rec.now ≡ record_length }
-    requires index_len { length index.now ≡ index_length }
+fn upper_matches(rec: &Record, index: &Index, standing: Set128, k: usize) -> bool
     requires k_bound { k < 128 }
     ensures { (st : State) → Target st (set_of standing) index.now → Headed st rec.now → So result ↔ UpperHeld st rec.now k }
 {
-    let juniors = juniors_of(&index[LOWER..ROLES], standing, k);
+    let juniors = juniors_of(&index.lower, standing, k);
     if load(rec, JUNIORS + 2 * k) != juniors {
         return false;
     }
@@ -29,9 +25,7 @@ fn upper_matches(rec: &[u64], index: &[u64], standing: Set128, k: usize) -> bool
 }
 
 // Those of all c candidates.
-pub fn uppers_match(rec: &[u64], index: &[u64], standing: Set128, c: usize) -> bool
-    requires rec_len { length rec.now ≡ record_length }
-    requires index_len { length index.now ≡ index_length }
+pub fn uppers_match(rec: &Record, index: &Index, standing: Set128, c: usize) -> bool
     requires c_bound { c ≤ 128 }
     ensures { (st : State) → Target st (set_of standing) index.now → Headed st rec.now → So result ↔ ((k : ℕ) → k < c → UpperHeld st rec.now k) }
 {

@@ -10,6 +10,7 @@ ghost use Rattle.sets.specs.Words.{value, word};
 
 use crate::items::Items;
 use crate::word::{bit_at, count_of, highest_or, less_or, mask_below, place_of};
+
 // A set of items below 64 WORDS.
 #[derive(Clone, Copy, PartialEq, Eq)]
 pub struct Set<const WORDS: usize> {

@@ -36,7 +36,7 @@ pub fn bit_at(i: usize, j: usize) -> u64
 pub fn with_bit(w: u64, i: usize, held: bool) -> u64
     ensures { result ≡ (when held then w ∪ single (i % 64) else w) }
 {
-    w | ((held as u64) << place_of(i).bit)
+    w | (u64::from(held) << place_of(i).bit)
 }
 
 pub fn count_of(w: u64) -> usize

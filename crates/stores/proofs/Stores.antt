@@ -1,19 +1,16 @@
 -- Values stored into a list.
 -- Assumes nothing.
-use mathlib.Core.Path.{◌≡◌, refl, sym, ◌∙◌, ap, ap₂}
+use mathlib.Core.Path.{◌≡◌, refl, sym, ◌∙◌, ap}
 use mathlib.Core.Bool.{Bool, true, false}
 use mathlib.Core.List.{List, [], ◌∷◌, ◌++◌}
 use Prim.Native.Nat.{ℕ, zero, suc, ◌+◌, ◌-◌, ◌≤◌, ◌<◌}
-use native.Mathlib.Nat.{add-zero, zero-add, not-suc-le-zero, le_of_suc-le-suc, lt_of_lt_of_le, min-le_left}
+use native.Mathlib.Nat.{add-zero, not-suc-le-zero, le_of_suc-le-suc}
 use native.Mathlib.Omega.{arith}
 use native.Mathlib.Numerals.{add-one}
 use lib.Dec.{ltb}
-use lib.ListN.{length, get_or, set, take, drop, length-set, length-append, length-take, length-drop, replicate, length-replicate, get_or-replicate, get_or-append, get_or-eq_default}
+use lib.ListN.{length, get_or, set, take, drop, length-set, length-append, length-drop, replicate, length-replicate, get_or-replicate, get_or-append, get_or-eq_default}
 use lib.Seq.{ext_get_or, take-suc, take_all, length-take-le, get_or-take, get_or-drop, get_or-append-add, get_or-set_same, get_or-set_other}
 use borrow.Author.Tests.{ltb-true, ltb-false}
-use borrow.Rule.Slice.PartMut.{put_mid}
-use Rattle.std.proofs.Math.Seq.{take-suc-set}
-use Rattle.std.proofs.lemmas.List.{append_assoc, drop-set-lt, take-append-drop, drop-drop}
 use Rattle.stores.specs.Stores.{put_at}
 
 pub length-put_at : (l : List ℕ) (at : ℕ) (vs : List ℕ) → length (put_at l at vs) ≡ length l
@@ -70,31 +67,6 @@ put_at_in l at (v ∷ vs) (suc j) h k =
     let e : at + suc j ≡ suc at + j = omega arith in
     rw e (put_at_in (set l at v) (suc at) vs j (omega arith) (le_of_suc-le-suc k))
 
--- a whole list stored over another
--- what was there before, the values, and what is behind them
-pub put_at_spliced : (l : List ℕ) (at : ℕ) (vs : List ℕ) → at + length vs ≤ length l → take at l ++ (vs ++ drop (at + length vs) l) ≡ put_at l at vs
-unfolding put_at
-put_at_spliced l at [] h = rw (add-zero at) (take-append-drop at l)
-put_at_spliced l at (v ∷ vs) h =
-    let b : at < length l = omega arith in
-    let f : at + suc (length vs) ≡ suc at + length vs = omega arith in
-    let g : suc at + length vs ≤ length (set l at v) = rw (length-set l at v) (omega arith) in
-    rw f
-    (sym (append_assoc (take at l) (v ∷ []) (vs ++ drop (suc at + length vs) l))
-    ∙ ap₂ ◌++◌ (sym (take-suc-set l at v b)) (ap (λ (r : List ℕ). vs ++ r) (sym (drop-set-lt (suc at + length vs) l at v (omega arith))))
-    ∙ put_at_spliced (set l at v) (suc at) vs g)
-
--- the same as a store into a part of a slice leaves it
-pub put_at_mid : (l : List ℕ) (at k : ℕ) (xs vs : List ℕ) → xs ≡ vs → k ≡ length vs → at + length vs ≤ length l → put_mid at k l xs ≡ put_at l at vs
-put_at_mid l at k xs vs e n h = rw (e, n, drop-drop (length vs) at l) (put_at_spliced l at vs h)
-
-pub put_at_whole : (l vs : List ℕ) → length l ≡ length vs → put_at l 0 vs ≡ vs
-put_at_whole l vs e =
-    ext_get_or 0 (put_at l 0 vs) vs (length-put_at l 0 vs ∙ e)
-    (λ i h.
-    let b : i < length vs = rw (length-put_at l 0 vs ∙ e) at h in
-    ap (λ (x : ℕ). get_or (put_at l 0 vs) x 0) (sym (zero-add i)) ∙ put_at_in l 0 vs i (omega arith) b)
-
 either : {C : Type 0} (a b : ℕ) → (a < b → C) → (b ≤ a → C) → C
 either {C} a b l r = go (ltb a b) refl
   where
@@ -135,22 +107,7 @@ module _ (l : List ℕ) (at n : ℕ) (vs : List ℕ) (e : length vs ≡ n) (fits
 
 -- ---- parts of a list after a store
 
-pub part_same : (l l' : List ℕ) (at n : ℕ) → length l ≡ length l' → ((i : ℕ) → i < n → get_or l (at + i) 0 ≡ get_or l' (at + i) 0)
-    → take n (drop at l) ≡ take n (drop at l')
-part_same l l' at n e h =
-    ext_get_or 0 (take n (drop at l)) (take n (drop at l')) (simp (length-take, length-drop, e))
-    (λ i b.
-    let most : length (take n (drop at l)) ≤ n = rw (length-take n (drop at l)) (min-le_left n (length (drop at l))) in
-    let small : i < n = lt_of_lt_of_le b most in
-    get_or-take n (drop at l) i 0 small ∙ get_or-drop at l i 0 ∙ h i small ∙ sym (get_or-drop at l' i 0) ∙ sym (get_or-take n (drop at l') i 0 small))
-
--- a part that lies before the store, one that lies behind it, and the one that was stored
-pub part_before : (l : List ℕ) (at : ℕ) (vs : List ℕ) (from n : ℕ) → from + n ≤ at → take n (drop from (put_at l at vs)) ≡ take n (drop from l)
-part_before l at vs from n h = part_same (put_at l at vs) l from n (length-put_at l at vs) (λ i b. put_at-below l at vs (from + i) (omega arith))
-
-pub part_behind : (l : List ℕ) (at : ℕ) (vs : List ℕ) (from n : ℕ) → at + length vs ≤ from → take n (drop from (put_at l at vs)) ≡ take n (drop from l)
-part_behind l at vs from n h = part_same (put_at l at vs) l from n (length-put_at l at vs) (λ i b. put_at_above l at vs (from + i) (omega arith))
-
+-- the part that was stored
 pub part_stored : (l : List ℕ) (at : ℕ) (vs : List ℕ) (n : ℕ) → length vs ≡ n → at + n ≤ length l → take n (drop at (put_at l at vs)) ≡ vs
 part_stored l at vs n e h =
     let len : length (take n (drop at (put_at l at vs))) ≡ n = length-take-le n (drop at (put_at l at vs)) (simp (length-drop, length-put_at) (omega arith)) in
@@ -165,11 +122,3 @@ blank n i =
     let z : ℕ = 0 in
     let e = length-replicate n z in
     either i n (λ l. get_or-replicate n i z z l) (λ l. get_or-eq_default (replicate n z) z (omega arith))
-
--- and each of its parts
-pub blank_part : (n at m i : ℕ) → ◌≡◌ {A = ℕ} (get_or (take m (drop at (replicate n 0))) i 0) 0
-blank_part n at m i =
-    let z : ℕ = 0 in
-    let l = drop at (replicate n z) in
-    let most : length (take m l) ≤ m = rw (length-take m l) (min-le_left m (length l)) in
-    either i m (λ b. get_or-take m l i z b ∙ get_or-drop at (replicate n z) i z ∙ blank n (at + i)) (λ b. get_or-eq_default (take m l) z (omega arith))

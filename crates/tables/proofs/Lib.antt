@@ -6,3 +6,4 @@ pub mod Halving
 pub mod Moving
 pub mod Clearing
 pub mod Asking
+pub mod Chunks

@@ -1,7 +1,7 @@
 -- A set stored into a list of words, and read from it.
 -- Assumes nothing.
 use mathlib.Core.Path.{◌≡◌, refl, sym, ◌∙◌, ap}
-use mathlib.Core.List.{List, [], ◌∷◌}
+use mathlib.Core.List.{List, ◌∷◌}
 use Prim.Native.Nat.{ℕ, zero, suc, ◌+◌, ◌-◌, ◌*◌, ◌^◌, ◌≤◌, ◌<◌}
 use native.Mathlib.Omega.{arith}
 use lib.ListN.{length, get_or, take, drop}
@@ -9,7 +9,7 @@ use Rattle.std.proofs.Math.Seq.{drop-cons}
 use Rattle.sets.specs.Words.{value, word}
 use Rattle.sets.proofs.Words.{same_words, word_value}
 use Rattle.sets.proofs.Written.{Arr}
-use Rattle.model.specs.Lists.{tabulate, elems, set_at}
+use Rattle.model.specs.Lists.{elems, set_at}
 use Rattle.model.proofs.Lists.{length-tabulate, get_d_tabulate, set_at_words, set_at_same}
 use Rattle.stores.specs.Stores.{put_at}
 use Rattle.stores.proofs.Stores.{put_at-below, put_at_above, put_at_in}

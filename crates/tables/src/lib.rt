@@ -4,17 +4,18 @@
 mod growing;
 mod layout;
 
-ghost use Rattle.std.specs.Prelude.{◌≡◌, ◌↔◌, ℕ, ◌+◌, ◌≤◌, eqb, length, get_or};
+ghost use Rattle.std.specs.Prelude.{◌≡◌, ◌↔◌, ℕ, ◌+◌, ◌*◌, ◌≤◌, eqb, length, get_or};
 ghost use Rattle.std.proofs.Math.Bool.{So};
 ghost use Rattle.sets.specs.Held.{set_of};
 ghost use Rattle.sets.specs.Truth.{all};
-ghost use Rattle.model.specs.Lists.{set_at};
+ghost use Rattle.model.specs.Lists.{set_at, rows_at};
 ghost use Rattle.stores.specs.Stores.{put_at};
+ghost use Rattle.tables.specs.Rows.{rows_of};
 ghost use Rattle.tables.specs.Stores.{words_of};
 ghost use Rattle.tables.specs.Tables.{ZeroFrom};
 
 pub use growing::{insert, search};
-pub use layout::{CREW, JUNIORS, LENGTH, MEMBERS, PERMISSIONS, SETS, STANDING};
+pub use layout::{CREW, JUNIORS, LENGTH, MEMBERS, PERMISSIONS, Record, SETS, STANDING, Table128};
 use sets::Set;
 
 // The set whose words stand from place `at` on.
@@ -27,6 +28,15 @@ pub fn load<const WORDS: usize>(ws: &[u64], at: usize) -> Set<WORDS>
     Set::from_words(words)
 }
 
+// The n rows of four words each that stand from place `at` on.
+pub fn crew_rows(ws: &[u64], at: usize, n: usize) -> &[[u64; 4]]
+    requires { at + 4 * n ≤ length ws.now }
+    ensures value { rows_of result.now ≡ rows_at n ws.now at }
+    ensures count { length result.now ≡ n }
+{
+    ws[at..at + 4 * n].as_chunks().0
+}
+
 pub fn store<const WORDS: usize>(ws: &mut [u64], at: usize, s: Set<WORDS>)
     requires { at + WORDS ≤ length ws.old }
     ensures { ws.new ≡ put_at ws.old at (words_of WORDS (set_of s.entry)) }
@@ -34,12 +44,15 @@ pub fn store<const WORDS: usize>(ws: &mut [u64], at: usize, s: Set<WORDS>)
     copy(ws, at, &s.words);
 }
 
-// Puts all of src into ws, from place `at` on.
+// Puts all of src into ws, from place `at` on. Word by word: the library's `copy_from_slice` is a move of memory where the compiler doesn't see that
+// the two slices are apart, and the archive is to need no `memmove`.
 pub fn copy(ws: &mut [u64], at: usize, src: &[u64])
     requires { at + length src.now ≤ length ws.old }
     ensures { ws.new ≡ put_at ws.old at src.now }
 {
-    ws[at..at + src.len()].copy_from_slice(src);
+    for i in 0..src.len() {
+        ws[at + i] = src[i];
+    }
 }
 
 // Whether ws holds all of src, from place `at` on.

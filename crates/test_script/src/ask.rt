@@ -1,11 +1,11 @@
 // What alters no record: the calls that read one, the reader and the writer of a crew text, and titles.
 use crate::answer::told;
-use crate::lent::{MOST_LENT, MOST_WORDS, lent, lent_bytes, widened};
+use crate::lent::{MOST_LENT, MOST_WORDS, lent_bytes, widened};
 use panel::{panel_may, panel_quality, panel_read_crew, panel_write_crew};
 use std::io::{Read, Write};
 use streams::read_full;
 use test_input::{Unread, last_numbers};
-use test_support::{case, text, widen};
+use test_support::{case, lent, text, widen};
 
 const MOST_BYTES: usize = 4096;
 
@@ -51,7 +51,7 @@ fn read<R: Read, W: Write>(from: &mut R, to: &mut W) -> Result<(), Unread> {
         return Err(Unread::Line);
     }
     let mut space = [0u8; MOST_BYTES];
-    let mut words = lent();
+    let mut words: [u64; MOST_WORDS] = lent();
     read_bytes(from, to, &mut space[..size], &mut words[..count])
 }
 

@@ -1,11 +1,11 @@
 // What alters the record: the calls that mine and edit, and a word put into it.
 use crate::answer::{number_alone, told};
-use crate::lent::{MOST_WORDS, lent};
+use crate::lent::MOST_WORDS;
 use crate::list::list;
 use panel::{panel_eliminate, panel_mine, panel_restore, panel_review, panel_strike};
 use std::io::{Read, Write};
 use test_input::{Unread, last_numbers, numbers};
-use test_support::case;
+use test_support::{case, lent};
 
 fn mine_words<R: Read, W: Write>(
     from: &mut R,
@@ -30,7 +30,7 @@ fn mine<R: Read, W: Write>(from: &mut R, to: &mut W, rec: &mut [u64]) -> Result<
     if MOST_WORDS < count {
         return Err(Unread::Line);
     }
-    let mut crew = lent();
+    let mut crew: [u64; MOST_WORDS] = lent();
     mine_words(from, to, n, m, &mut crew[..count], rec)
 }
 

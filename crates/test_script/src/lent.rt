@@ -1,14 +1,8 @@
-// Words and bytes that are lent to a call, in part, and show what was written to them.
+// Bytes that are lent to a call, in part, and show what was written to them; and how many words are lent.
 ghost use Rattle.std.specs.Prelude.{◌≡◌, length};
 
 // More than mining or the reader takes, so that they are seen to refuse them.
 pub const MOST_WORDS: usize = 520;
-
-pub fn lent() -> [u64; MOST_WORDS]
-    ensures { 520 ≡ length result }
-{
-    [7; MOST_WORDS]
-}
 
 // More than any crew text that is written.
 pub const MOST_LENT: usize = 9000;

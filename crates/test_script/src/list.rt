@@ -1,9 +1,9 @@
 // A list of calls served in one go.
-use crate::lent::{MOST_WORDS, lent};
+use crate::lent::MOST_WORDS;
 use panel::{NotServed, serve};
 use std::io::{Read, Write};
 use test_input::{Unread, last_numbers, numbers};
-use test_support::case;
+use test_support::{case, lent};
 
 fn serve_words<W: Write>(
     to: &mut W,
@@ -37,11 +37,11 @@ pub fn list<R: Read, W: Write>(from: &mut R, to: &mut W, rec: &mut [u64]) -> Res
     if MOST_WORDS < rows || MOST_WORDS < words || MOST_WORDS < answers {
         return Err(Unread::Line);
     }
-    let mut crew = lent();
+    let mut crew: [u64; MOST_WORDS] = lent();
     numbers(from, &mut crew[..rows])?;
-    let mut calls = lent();
+    let mut calls: [u64; MOST_WORDS] = lent();
     last_numbers(from, &mut calls[..words])?;
-    let mut out = lent();
+    let mut out: [u64; MOST_WORDS] = lent();
     serve_words(
         to,
         head[0],

@@ -4,7 +4,7 @@ ghost use Rattle.std.specs.Prelude.{◌≡◌, length};
 fn wide(byte: u8) -> u64
     ensures { result ≡ byte }
 {
-    byte as u64
+    u64::from(byte)
 }
 
 // Each byte into the word of its place.

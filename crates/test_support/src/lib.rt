@@ -5,8 +5,10 @@ mod bytes;
 mod files;
 mod mixing;
 mod show;
+mod words;
 
 pub use bytes::widen;
 pub use files::next_file;
 pub use mixing::digest;
 pub use show::{case, number, text};
+pub use words::lent;

@@ -2,12 +2,10 @@
 // A case is a line with the lengths of its text and of its buffer, each in four hexadecimal digits, as `001f,0200`, and then the text.
 #![tactic(auto)]
 
-ghost use Rattle.std.specs.Prelude.{◌≡◌, length};
-
 use std::io;
 use std::io::Write;
 use streams::read_full;
-use test_support::case;
+use test_support::{case, lent};
 use text_sets::{hexadecimal_set, read_hexadecimal};
 
 const MOST_INPUT: usize = 65536;
@@ -32,13 +30,6 @@ fn run<W: Write>(to: &mut W, text: &[u8], words: &mut [u64]) -> io::Result<()> {
     case(to, b"read", &[], &a, words)
 }
 
-// Words that show what was written to them.
-fn lent() -> [u64; MOST_WORDS]
-    ensures { 600 ≡ length result }
-{
-    [7; MOST_WORDS]
-}
-
 // Runs the case at place `at`; the place after it, or the input's end where there is no whole case.
 fn run_case<W: Write>(to: &mut W, input: &[u8], at: usize) -> io::Result<usize> {
     if input.len() < 10 || input.len() - 10 < at {
@@ -50,7 +41,7 @@ fn run_case<W: Write>(to: &mut W, input: &[u8], at: usize) -> io::Result<usize> 
     if input.len() - start < size || MOST_WORDS < count {
         return Ok(input.len());
     }
-    let mut words = lent();
+    let mut words: [u64; MOST_WORDS] = lent();
     run(to, &input[start..start + size], &mut words[..count])?;
     Ok(start + size)
 }

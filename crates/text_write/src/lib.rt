@@ -12,6 +12,7 @@ ghost use Rattle.text_write.specs.Text.{record_text};
 mod rows;
 
 use crate::rows::put_rows;
+use tables::Record;
 use text::{decimal_length, put_first_line};
 use text_lines::digits_for;
 
@@ -43,7 +44,7 @@ fn put_header(out: &mut [u8], n: u64, m: u64) -> usize
 }
 
 // Writes the crew text of a record from the first byte on.
-pub fn put_crew(rec: &[u64], out: &mut [u8])
+pub fn put_crew(rec: &Record, out: &mut [u8])
     requires so { So (sound rec.now) }
     requires rec_in_bounds { length (record_text rec.now) ≤ length out.old }
     ensures { out.new ≡ put_at out.old 0 (record_text rec.now) }

@@ -1,19 +1,18 @@
 // The rows of a crew text.
 ghost use Rattle.std.specs.Prelude.{◌≡◌, ◌+◌, ◌*◌, ◌<◌, ◌≤◌, length};
 ghost use Rattle.model.specs.Lists.{set_at, rows_at};
-ghost use Rattle.model.specs.Record.{record_length, crew_start};
+ghost use Rattle.model.specs.Record.{crew_start};
 ghost use Rattle.stores.specs.Stores.{put_at};
 ghost use Rattle.text.specs.Decimal.{decimal};
 ghost use Rattle.text_lines.specs.Format.{digits_for, row_line, row_lines};
 
-use tables::{CREW, load};
+use tables::{CREW, Record, load};
 use text::{put_bytes, put_decimal};
 use text_lines::digits_for;
 use text_sets::put_hexadecimal;
 
 // The line of user u of a record, from place `at` on; the place after it.
-fn put_row(rec: &[u64], u: usize, m: u64, out: &mut [u8], at: usize) -> usize
-    requires rec_len { length rec.now ≡ record_length }
+fn put_row(rec: &Record, u: usize, m: u64, out: &mut [u8], at: usize) -> usize
     requires u_bound { u < 128 }
     requires m_bound { m ≤ 256 }
     requires m_in_bounds { at + (length (decimal u) + 1 + digits_for m + 1) ≤ length out.old }
@@ -27,8 +26,7 @@ fn put_row(rec: &[u64], u: usize, m: u64, out: &mut [u8], at: usize) -> usize
 }
 
 // The lines of the n users of a record, from place `start` on; the place after them.
-pub fn put_rows(rec: &[u64], n: usize, m: u64, out: &mut [u8], start: usize) -> usize
-    requires rec_len { length rec.now ≡ record_length }
+pub fn put_rows(rec: &Record, n: usize, m: u64, out: &mut [u8], start: usize) -> usize
     requires n_bound { n ≤ 128 }
     requires m_bound { m ≤ 256 }
     requires n_in_bounds { start + length (row_lines m (rows_at n rec.now crew_start) n) ≤ length out.old }

@@ -1,6 +1,5 @@
 -- Each check by its own test.
 -- Assumes nothing.
-use borrow.Author.Rules.{rules}
 use native.Mathlib.Omega.{arith}
 use Rattle.call_strike.proofs.Striking.{strike_6, strike_7, strike_8, strike_0}
 use Rattle.call_strike.proofs.strike_refusal.Goals as goal
@@ -15,7 +14,7 @@ pub can_strike-requires : goal.can_strike-requires
 can_strike-requires c = let given = c.requires in
     let few = given.rec_bound in
     let l = c.if-rec-k.false in
-    record { rec_len = given.rec_len; index_len = search rules; k_bound = omega arith; rec_bound = few }
+    record { k_bound = omega arith; rec_bound = few }
 
 pub returns-then-not-can_strike : goal.returns-then-not-can_strike
 returns-then-not-can_strike c = record {

@@ -1,6 +1,5 @@
 -- Three ways: the role is not strikable; it stays; it is struck.
 -- Assumes nothing.
-use borrow.Author.Rules.{rules}
 use mathlib.Core.Path.{refl}
 use Rattle.edit_trials.proofs.Runs.{strike_below, trial_few}
 use Rattle.edit_turn.proofs.Turns.{turn_dropped, turn_stayed, turn_struck}
@@ -11,25 +10,16 @@ returns-then-not-removable c = let given = c.requires in
     turn_dropped _ _ _ _ _ _ given.underway _ given.so c.removable.ensures c.if-not-removable.true _ refl c.remove.ensures
 
 pub if_struck-trial-requires : goal.if_struck-trial-requires
-if_struck-trial-requires c =
-    let given = c.requires in
-    record {
-      ready = given.underway.in_step.ready;
-      exact = given.underway.in_step.exact;
-      so = given.so;
-      k_bound = search rules;
-      rec_len = search rules;
-      index_len = search rules;
-      seniors_len = search rules;
-    }
+if_struck-trial-requires c = let given = c.requires in
+    record { ready = given.underway.in_step.ready; exact = given.underway.in_step.exact; so = given.so; k_bound = given.k_bound }
 
 pub weigh-quality-requires : goal.weigh-quality-requires
 weigh-quality-requires c = let given = c.requires in
-    record { few = trial_few _ _ _ given.underway.in_step.ready _ (strike_below _ _ _ given.underway.in_step.ready _) _ c.if_struck-trial.ensures.counts; so = given.allowed.weights }
+    trial_few _ _ _ given.underway.in_step.ready _ (strike_below _ _ _ given.underway.in_step.ready _) _ c.if_struck-trial.ensures.counts
 
 pub tolerated-requires : goal.tolerated-requires
 tolerated-requires c = let given = c.requires in
-    record { so = given.allowed.tolerance; quality_le_most_quality = c.weigh-quality.ensures.upper_bound; reference_le_most_quality = given.underway.quality_small }
+    record { quality_le_most_quality = c.weigh-quality.ensures.upper_bound; reference_le_most_quality = given.underway.quality_small }
 
 pub returns-then-not-tolerated : goal.returns-then-not-tolerated
 returns-then-not-tolerated c = let given = c.requires in

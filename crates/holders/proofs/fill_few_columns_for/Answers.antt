@@ -1,6 +1,5 @@
 -- The permissions that are not in `rest` have their entries.
 -- Assumes nothing.
-use borrow.Author.Rules.{rules}
 use Prim.Native.Nat.{◌^◌, ◌<◌}
 use native.Mathlib.Omega.{arith}
 use Rattle.sets.specs.Held.{set_of}
@@ -8,8 +7,6 @@ use Rattle.sets.proofs.Written.{words}
 use Rattle.sets.proofs.Held.{held128}
 use Rattle.tables.proofs.Tables.{held_start, held_more}
 use Rattle.holders.proofs.Holding.{held_all}
-use Rattle.std.proofs.Common.{ap}
-use mathlib.Core.Bool.{not}
 use Rattle.sets.proofs.Taken.{begun}
 use Rattle.holders.proofs.fill_few_columns_for.Goals as goal
 use Rattle.holders.proofs.fill_few_columns_for.Goals.{After-column_of}
@@ -18,17 +15,12 @@ small : (c : After-column_of) → set_of c.column_of.result < 2 ^ 128
 small c = search (words, held128)
 
 pub loop-p-init : goal.loop-p-init
-loop-p-init c = (search rules, held_start _ _ _)
+loop-p-init c = held_start _ _ _
 
 pub loop-p-preserved : goal.loop-p-preserved
-loop-p-preserved c = let l = c.in-Some.ensures.steps.0.small in (
-  omega arith,
-  rw (c.in-Some.ensures.steps.1, c.store.ensures)
-      (held_more _ _ _ _ _ _ c.loop-p.invariant.1 (omega arith) (small (goal.at.loop-p-preserved c).After-column_of) c.column_of.ensures),
-)
-
-pub shape_of-out : goal.shape_of-out
-shape_of-out c = omega arith
+loop-p-preserved c = let l = c.in-Some.ensures.steps.0.small in
+    rw (c.in-Some.ensures.steps.1, c.store.ensures)
+    (held_more _ _ _ _ _ _ c.loop-p.invariant (omega arith) (small (goal.at.loop-p-preserved c).After-column_of) c.column_of.ensures)
 
 pub returns : goal.returns
-returns c = rw (begun c.into_iter-p-iterator.ensures.into_iter_gives c.items-p-items.ensures) at (held_all _ _ _ _ c.loop-p.invariant.1 c.in-None.ensures.steps.0)
+returns c = rw (begun c.into_iter-p-iterator.ensures.into_iter_gives c.items-p-items.ensures) at (held_all _ _ _ _ c.loop-p.invariant c.in-None.ensures.steps.0)

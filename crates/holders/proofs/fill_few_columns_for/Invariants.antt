@@ -1,8 +1,6 @@
 -- The permissions that are not in `rest` have their entries.
 -- Assumes nothing.
-use mathlib.Core.Path.{◌≡◌}
 use Prim.Native.Nat.{◌*◌}
-use lib.ListN.{length}
 use Rattle.sets.specs.Held.{set_of}
 use Rattle.sets.specs.Sets.{has, collect}
 use Rattle.model.specs.Lists.{set_at}
@@ -10,4 +8,4 @@ use Rattle.tables.proofs.Tables.{HeldBut}
 use Rattle.holders.proofs.fill_few_columns_for.Given as goal
 
 abbrev pub invariant-loop-p : goal.invariant-loop-p
-invariant-loop-p l = (length l.out ≡ 512) × HeldBut (set_of l.initial.p-iterator.rest) (set_of l.p-iterator.rest) (λ p. collect l.c (λ k. has (set_at 4 l.table (4 * k)) p)) l.out
+invariant-loop-p l = HeldBut (set_of l.initial.p-iterator.rest) (set_of l.p-iterator.rest) (λ p. collect l.c (λ k. has (set_at 4 l.table (4 * k)) p)) l.out

@@ -9,9 +9,6 @@ use Rattle.mining.proofs.add_meets.Goals as goal
 pub loop-i-init : goal.loop-i-init
 loop-i-init c = (c.requires.0, walked_none _ _ c.requires.1, c.requires.2)
 
-pub is_known-requires : goal.is_known-requires
-is_known-requires c = c.loop-i.invariant.2.size
-
 pub loop-i-preserved-then-is_known : goal.loop-i-preserved-then-is_known
 loop-i-preserved-then-is_known c = let inv = c.loop-i.invariant in (
   inv.0,

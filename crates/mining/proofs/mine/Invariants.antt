@@ -1,9 +1,10 @@
--- The table has the candidates of the first u users.
+-- The table has the candidates of the rows so far.
 -- Assumes nothing.
 use Rattle.model.specs.Lists.{rows_at}
-use Rattle.mining.specs.Mining.{Seen}
+use Rattle.tables.specs.Rows.{rows_of}
+use Rattle.mining.specs.Mining.{sets_of, Seen}
 use Rattle.mining.proofs.Users.{Mining}
 use Rattle.mining.proofs.mine.Given as goal
 
-abbrev pub invariant-loop-u : goal.invariant-loop-u
-invariant-loop-u l = Mining l.n l.crew l.at l.u l.table l.candidates × Seen l.seen (rows_at l.candidates l.table 0)
+abbrev pub invariant-loop-row : goal.invariant-loop-row
+invariant-loop-row l = Mining (rows_of l.rows) l.row-index l.table l.candidates × Seen (sets_of l.seen) (rows_at l.candidates l.table 0)

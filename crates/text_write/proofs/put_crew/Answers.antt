@@ -21,7 +21,7 @@ bounds-rec-1-2 c = let size = (record_room _ c.requires.so).size in omega arith
 
 pub put_rows-requires : goal.put_rows-requires
 put_rows-requires c = let r = record_room _ c.requires.so in
-    record { rec_len = r.size; n_bound = r.users; m_bound = r.permissions; n_in_bounds = omega (arith, r.bytes) }
+    record { n_bound = r.users; m_bound = r.permissions; n_in_bounds = omega (arith, r.bytes) }
 
 pub returns : goal.returns
 returns c = record_put _ _ _ _ _ _ (c.put_header-start.ensures.value, c.put_header-start.ensures.out_after) (c.put_rows.ensures.value, c.put_rows.ensures.out_after)

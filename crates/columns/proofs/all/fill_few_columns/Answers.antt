@@ -1,6 +1,5 @@
 -- The entries below k are filled.
 -- Assumes nothing.
-use borrow.Author.Rules.{rules}
 use mathlib.Core.Path.{◌≡◌}
 use native.Mathlib.Omega.{arith}
 use Prim.Native.Nat.{◌^◌, ◌<◌}
@@ -11,14 +10,14 @@ use Rattle.tables.proofs.Tables.{filled_none, filled_more}
 use Rattle.columns.proofs.all.fill_few_columns.Goals as goal
 
 pub loop-k-init : goal.loop-k-init
-loop-k-init c = (search rules, filled_none 2 _ _)
+loop-k-init c = filled_none 2 _ _
 
 pub loop-k-preserved : goal.loop-k-preserved
 loop-k-preserved c = let small : set_of c.column.result < 2 ^ 128 = search (words, held128) in
     let l = c.loop-k in
     let out = c.args.out.now in
-    (omega arith, rw c.store.ensures (filled_more 2 _ _ _ out l.out l.invariant.1 (omega arith) small c.column.ensures))
+    rw c.store.ensures (filled_more 2 _ _ _ out l.out l.invariant (omega arith) small c.column.ensures)
 
 pub returns : goal.returns
 returns c = let e : c.loop-k.k ≡ c.args.c = omega arith in
-    rw e at c.loop-k.invariant.1
+    rw e at c.loop-k.invariant

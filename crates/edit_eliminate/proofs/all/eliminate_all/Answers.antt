@@ -1,8 +1,6 @@
 -- The holders are filled, and the quality at the start is that of the record; where no role is strikable it is the end already.
 -- Assumes nothing.
-use borrow.Author.Rules.{rules}
 use mathlib.Core.Path.{refl, sym, ◌∙◌}
-use lib.ListN.{take}
 use Rattle.sets.proofs.Truth.{eqb_iff}
 use Rattle.model.specs.Coverage.{strikables}
 use Rattle.model.specs.Machine.{begin}
@@ -11,7 +9,6 @@ use Rattle.model.specs.State.{roles_of}
 use Rattle.indexes.specs.Index.{Indexed, AllHolders}
 use Rattle.quality.specs.Numbers.{weights_in}
 use Rattle.edit_trials.proofs.Runs.{ready_few, ready_weighed}
-use Rattle.edit_work.specs.Work.{down_start}
 use Rattle.edit_turn.specs.declared.Turn.{Turn}
 use Rattle.edit_turn.specs.Turning.{RunReached}
 use Rattle.edit_eliminate.proofs.Running.{ended_at_once, permissions_few, index_of, all_held, first_turn, all_prepared}
@@ -35,7 +32,7 @@ turn c =
 first : (c : After-strikable_roles-worklist)
     → let ws = c.args.rec.now in
     let ρ = roles_of (state_of ws) in
-    RunReached (state_of ws) ws c.fill_holders.new.index (take down_start c.args.work.now) (turn c)
+    RunReached (state_of ws) ws c.fill_holders.new.index c.args.seniors.now (turn c)
     (begin ρ (weights_in c.args.terms.weights) (strikables ρ (state_of ws).standing) (state_of ws).standing)
 first c =
     let given = c.requires in
@@ -44,22 +41,23 @@ first c =
     first_turn _ _ _ given.ready _ index.0 index.1 _ (turn c) given.exact weighed.value weighed.upper_bound refl refl c.strikable_roles-worklist.ensures
 
 pub fill_holders-requires : goal.fill_holders-requires
-fill_holders-requires c = record { rec_len = search rules; index_len = search rules; rec_bound = ready_few _ _ _ c.requires.ready }
+fill_holders-requires c = record { rec_bound = ready_few _ _ _ c.requires.ready }
 
 pub weigh-requires : goal.weigh-requires
 weigh-requires c = let given = c.requires in
-    record { few = ready_weighed _ _ _ given.ready _ given.exact; so = given.allowed.weights }
+    ready_weighed _ _ _ given.ready _ given.exact
 
 pub returns-then-is_empty : goal.returns-then-is_empty
-returns-then-is_empty c = ended_at_once _ _ _ _ (turn (goal.at.returns-then-is_empty c).After-strikable_roles-worklist) (first (goal.at.returns-then-is_empty c).After-strikable_roles-worklist) ((eqb_iff _ _).0 (sym c.is_empty.ensures ∙ c.if-is_empty.true))
+returns-then-is_empty c =
+    let at = (goal.at.returns-then-is_empty c).After-strikable_roles-worklist in
+    ended_at_once _ _ _ _ (turn at) (first at) ((eqb_iff _ _).0 (sym c.is_empty.ensures ∙ c.if-is_empty.true))
 
 pub fill_order-requires : goal.fill_order-requires
 fill_order-requires c = let held-here = held (goal.at.fill_order-requires c).After-fill_holders in
     let ready = c.requires.ready in
-    record { indexed_for = index_of _ _ _ ready _ held-here.0 held-here.1; m_bound = permissions_few _ _ _ ready; work_len = search rules }
+    record { indexed_for = index_of _ _ _ ready _ held-here.0 held-here.1; m_bound = permissions_few _ _ _ ready }
 
 pub run_passes-requires : goal.run_passes-requires
 run_passes-requires c = let given = c.requires in
-    let ordered = c.fill_order in
     let index = held (goal.at.run_passes-requires c).After-fill_holders in
-    record { run_reached = rw ordered.ensures.work_unchanged (first (goal.at.run_passes-requires c).After-strikable_roles-worklist); allowed = given.allowed; prepared = all_prepared _ _ _ given.ready _ index.0 index.1 _ _ _ refl refl ordered.ensures.prepared; rec_len = given.rec_len; index_len = search rules; work_len = search rules }
+    record { run_reached = first (goal.at.run_passes-requires c).After-strikable_roles-worklist; prepared = all_prepared _ _ _ given.ready _ index.0 index.1 _ _ _ refl refl c.fill_order.ensures }

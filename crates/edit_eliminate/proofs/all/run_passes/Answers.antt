@@ -1,6 +1,5 @@
 -- As many more passes may follow as c + 1 leaves.
 -- Assumes nothing.
-use borrow.Author.Rules.{rules}
 use mathlib.Core.Path.{◌≡◌, sym, ◌∙◌}
 use Prim.Native.Nat.{◌+◌, ◌-◌}
 use mathlib.Core.Logic.{◌≢◌}
@@ -22,36 +21,24 @@ overflow_add-pass-end c = let few = ready_few _ _ _ c.requires.run_reached.under
 
 pub loop-pass-init : goal.loop-pass-init
 loop-pass-init c = let given = c.requires in
-    (search rules, search rules, running_start _ _ _ _ _ _ given.run_reached given.prepared (omega arith))
+    running_start _ _ _ _ _ _ _ given.run_reached given.prepared (omega arith)
 
 pub returns-then-is_empty : goal.returns-then-is_empty
-returns-then-is_empty c = running_empty _ _ _ _ _ _ _ _ c.loop-pass.invariant.2 (omega arith) ((eqb_iff _ _).0 (sym c.is_empty.ensures ∙ c.if-is_empty.true))
+returns-then-is_empty c = running_empty _ _ _ _ _ _ _ _ _ c.loop-pass.invariant (omega arith) ((eqb_iff _ _).0 (sym c.is_empty.ensures ∙ c.if-is_empty.true))
 
 pub pass-next-requires : goal.pass-next-requires
 pass-next-requires c = let inv = c.loop-pass.invariant in
-    let room = inv.2.room in
-    record { underway = inv.2.underway; allowed = c.requires.allowed; prepared = inv.2.prepared; counted_value = inv.2.counts; rec_len = inv.0; index_len = search rules; work_len = inv.1; examined_bound = omega arith }
-
-pub shape_of-rec-then-next-run : goal.shape_of-rec-then-next-run
-shape_of-rec-then-next-run c = let size = c.loop-pass.invariant.0 in
-    let first = c.requires.rec_len in
-    omega (arith, c.pass-next.auto)
-
-pub shape_of-work-then-next-run : goal.shape_of-work-then-next-run
-shape_of-work-then-next-run c = let size = c.loop-pass.invariant.1 in
-    let first = c.requires.work_len in
-    omega (arith, c.pass-next.auto)
+    let room = inv.room in
+    record { underway = inv.underway; prepared = inv.prepared; counted_value = inv.counts; examined_bound = omega arith }
 
 pub returns-then-next-run : goal.returns-then-next-run
-returns-then-next-run c = running_last _ _ _ _ _ _ _ _ c.loop-pass.invariant.2 (omega arith) (listed (goal.at.returns-then-next-run c).Else-is_empty) _ c.pass-next.new.work _ c.pass-next.ensures.run_reached c.if-next-run.true
+returns-then-next-run c = running_last _ _ _ _ _ _ _ _ _ c.loop-pass.invariant (omega arith) (listed (goal.at.returns-then-next-run c).Else-is_empty) _ _ _ c.pass-next.ensures.run_reached c.if-next-run.true
 
 pub loop-pass-preserved : goal.loop-pass-preserved
-loop-pass-preserved c = let next : get_or c.args.rec.now 2 0 + 1 - c.loop-pass._pass - 1 ≡ get_or c.args.rec.now 2 0 + 1 - (c.loop-pass._pass + 1) = omega arith in (
-  search rules,
-  search rules,
-  rw next at (running_more _ _ _ _ _ _ _ _ c.loop-pass.invariant.2 (omega arith) (listed (goal.at.loop-pass-preserved c).Else-is_empty) _ _ _ c.pass-next.ensures.run_reached c.if-next-run.false c.pass-next.ensures.prepared_2
-      _ c.strikable_roles-counted.ensures),
-)
+loop-pass-preserved c = let next : get_or c.args.rec.now 2 0 + 1 - c.loop-pass._pass - 1 ≡ get_or c.args.rec.now 2 0 + 1 - (c.loop-pass._pass + 1) = omega arith in
+    rw next at
+    (running_more _ _ _ _ _ _ _ _ _ c.loop-pass.invariant (omega arith) (listed (goal.at.loop-pass-preserved c).Else-is_empty) _ _ _ c.pass-next.ensures.run_reached
+    c.if-next-run.false c.pass-next.ensures.prepared_2 _ c.strikable_roles-counted.ensures)
 
 pub returns : goal.returns
-returns c = running_out _ _ _ _ _ _ _ _ c.loop-pass.invariant.2 (omega arith)
+returns c = running_out _ _ _ _ _ _ _ _ _ c.loop-pass.invariant (omega arith)

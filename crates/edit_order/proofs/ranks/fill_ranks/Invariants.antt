@@ -5,4 +5,4 @@ use Rattle.edit_order.proofs.Sorting.{Sorting}
 use Rattle.edit_order.proofs.ranks.fill_ranks.Given as goal
 
 abbrev pub invariant-loop-k : goal.invariant-loop-k
-invariant-loop-k l = Sorting l.initial.work l.c (set_of l.counted) (set_of l.fn.worklist) l.work (set_of l.k-iterator.rest)
+invariant-loop-k l = Sorting l.work l.c (set_of l.counted) (set_of l.fn.worklist) l.ranks (set_of l.k-iterator.rest)

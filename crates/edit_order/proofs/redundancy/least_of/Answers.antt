@@ -4,12 +4,12 @@ use mathlib.Core.Path.{◌≡◌, ◌∙◌, ap}
 use Prim.Native.Nat.{ℕ}
 use Rattle.sets.specs.Held.{set_of}
 use Rattle.sets.specs.Sets.{◌∩◌}
-use Rattle.edit_work.specs.Work.{samples_start, entry}
+use Rattle.edit_work.specs.Work.{entries}
 use Rattle.edit_order.proofs.Walking.{HolderAsked, asked, asking_start, asking_more, asking_fewer, asking_stop, asking_all}
 use Rattle.edit_order.proofs.redundancy.least_of.Goals as goal
 use Rattle.edit_order.proofs.redundancy.least_of.Goals.{After-intersection-own, After-min-least}
 
-own-roles : (c : After-intersection-own) → set_of c.intersection-own.result ≡ entry c.args.work.now samples_start c.args.i ∩ set_of c.args.counted
+own-roles : (c : After-intersection-own) → set_of c.intersection-own.result ≡ entries c.args.work.now.samples c.args.i ∩ set_of c.args.counted
 own-roles c = c.intersection-own.ensures ∙ ap (λ (x : ℕ). x ∩ set_of c.args.counted) c.load.ensures
 
 -- one holder is asked
@@ -23,7 +23,8 @@ pub loop-g-init : goal.loop-g-init
 loop-g-init c = asking_start _ _ _ _
 
 pub returns-then-least-floor : goal.returns-then-least-floor
-returns-then-least-floor c = rw (own-roles (goal.at.returns-then-least-floor c).After-intersection-own) at (asking_stop _ _ _ _ _ _ c.requires.prepared c.loop-g.invariant _ _ (one (goal.at.returns-then-least-floor c).After-min-least) _ c.if-least-floor.true)
+returns-then-least-floor c =
+    rw (own-roles (goal.at.returns-then-least-floor c).After-intersection-own) at (asking_stop _ _ _ _ _ _ c.requires.prepared c.loop-g.invariant _ _ (one (goal.at.returns-then-least-floor c).After-min-least) _ c.if-least-floor.true)
 
 pub loop-g-smaller : goal.loop-g-smaller
 loop-g-smaller c = rw c.difference-rest.ensures (asking_fewer _ _ _ _ _ _ c.requires.prepared c.loop-g.invariant _ _ (one (goal.at.loop-g-smaller c).After-min-least) _ c.load-in-Some-2.ensures)

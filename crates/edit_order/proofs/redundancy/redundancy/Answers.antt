@@ -1,6 +1,6 @@
 -- The samples that are not in `samples` are taken into account.
 -- Assumes nothing.
-use mathlib.Core.Path.{◌∙◌, ap₂}
+use mathlib.Core.Path.{◌∙◌, ap}
 use Prim.Native.Nat.{ℕ}
 use Rattle.sets.specs.Held.{set_of}
 use Rattle.sets.specs.Sets.{◌∩◌}
@@ -14,7 +14,7 @@ begun c =
     record {
       given = c.requires.prepared_for;
       low = c.requires.k_lt_c;
-      holders = c.intersection-holders.ensures ∙ ap₂ (λ (x y : ℕ). x ∩ y) c.load.ensures c.load-2.ensures;
+      holders = c.intersection-holders.ensures ∙ ap (λ (x : ℕ). x ∩ set_of c.args.work.now.first) c.load.ensures;
       samples = c.load-samples.ensures;
     }
 

@@ -52,18 +52,16 @@ returns-then-contains c = let given = c.requires in
 
 pub if_restored-trial-requires : goal.if_restored-trial-requires
 if_restored-trial-requires c = let given = c.requires in
-    let room = given.rec_len in
-    record { restorable = restorable (goal.at.if_restored-trial-requires c).Else-contains; exact = given.in_step.exact; k_bound = (number_known _ _ _ given.in_step.ready _ given.k_bound).1; rec_len = room.0; index_len = room.1 }
+    record { restorable = restorable (goal.at.if_restored-trial-requires c).Else-contains; exact = given.in_step.exact; k_bound = (number_known _ _ _ given.in_step.ready _ given.k_bound).1 }
 
 pub weigh-quality-requires : goal.weigh-quality-requires
 weigh-quality-requires c = let given = c.requires in
     let ready = given.in_step.ready in
-    record { few = trial_few _ _ _ ready _ (restore_below _ _ _ ready _ (restorable (goal.at.weigh-quality-requires c).Else-contains).candidate) _ c.if_restored-trial.ensures.counts; so = given.so }
+    trial_few _ _ _ ready _ (restore_below _ _ _ ready _ (restorable (goal.at.weigh-quality-requires c).Else-contains).candidate) _ c.if_restored-trial.ensures.counts
 
 pub put_back_at-requires : goal.put_back_at-requires
 put_back_at-requires c = let given = c.requires in
-    let room = given.rec_len in
-    record { rec_len = room.0; index_len = room.1; seniors_len = room.2; k_bound = (number_known _ _ _ given.in_step.ready _ given.k_bound).1 }
+    record { k_bound = (number_known _ _ _ given.in_step.ready _ given.k_bound).1 }
 
 pub returns-then-quality-at : goal.returns-then-quality-at
 returns-then-quality-at c = let able = restorable (goal.at.returns-then-quality-at c).Else-contains in

@@ -1,6 +1,5 @@
 -- As many more passes may follow as c + 1 leaves.
 -- Assumes nothing.
-use borrow.Author.Rules.{rules}
 use mathlib.Core.Path.{◌≡◌, refl}
 use Prim.Native.Nat.{◌+◌, ◌-◌}
 use native.Mathlib.Omega.{arith}
@@ -14,35 +13,29 @@ overflow_add-pass-end c = let few = ready_few _ _ _ c.requires.ready in omega ar
 
 pub weigh-requires : goal.weigh-requires
 weigh-requires c = let given = c.requires in
-    record { few = ready_weighed _ _ _ given.ready _ given.exact; so = given.so }
+    ready_weighed _ _ _ given.ready _ given.exact
 
 pub loop-pass-init : goal.loop-pass-init
 loop-pass-init c = let given = c.requires in
-    let room = given.rec_len in
-    let exact = given.exact in (
-      (room.0, room.2),
-      running_start _ _ _ _ _ _ (record { ready = given.ready; exact = exact }) (weighed _ _ _ _ exact c.weigh.ensures.value) refl refl (omega arith),
-    )
+    running_start _ _ _ _ _ _ (record { ready = given.ready; exact = given.exact }) (weighed _ _ _ _ given.exact c.weigh.ensures.value) refl refl (omega arith)
 
 pub review_pass-next-requires : goal.review_pass-next-requires
 review_pass-next-requires c = let given = c.requires in
     let inv = c.loop-pass.invariant in
-    let x = inv.1.changed in
-    let y = inv.1.examined in
-    record { in_step = inv.1.in_step; so = given.so; changed_le_pass_room = (omega arith, omega arith); rec_len = (inv.0.0, given.rec_len.1, inv.0.1) }
+    let x = inv.changed in
+    let y = inv.examined in
+    record { in_step = inv.in_step; changed_le_pass_room = (omega arith, omega arith) }
 
 pub returns-then-next-run : goal.returns-then-next-run
 returns-then-next-run c =
-    let made = running_last _ _ _ _ _ _ _ c.loop-pass.invariant.1 (omega arith) _ _ _ c.review_pass-next.ensures c.if-next-run.true in
+    let made = running_last _ _ _ _ _ _ _ c.loop-pass.invariant (omega arith) _ _ _ c.review_pass-next.ensures c.if-next-run.true in
     record { ready_2 = made.0; same_crew_list = made.1.0; result_after = made.1.1 }
 
 pub loop-pass-preserved : goal.loop-pass-preserved
-loop-pass-preserved c = let next : get_or c.args.rec.now 2 0 + 1 - c.loop-pass._pass - 1 ≡ get_or c.args.rec.now 2 0 + 1 - (c.loop-pass._pass + 1) = omega arith in (
-  (search rules, search rules),
-  rw next at (running_more _ _ _ _ _ _ _ c.loop-pass.invariant.1 (omega arith) _ _ _ c.review_pass-next.ensures c.if-next-run.false),
-)
+loop-pass-preserved c = let next : get_or c.args.rec.now 2 0 + 1 - c.loop-pass._pass - 1 ≡ get_or c.args.rec.now 2 0 + 1 - (c.loop-pass._pass + 1) = omega arith in
+    rw next at (running_more _ _ _ _ _ _ _ c.loop-pass.invariant (omega arith) _ _ _ c.review_pass-next.ensures c.if-next-run.false)
 
 pub returns : goal.returns
 returns c =
-    let made = running_out _ _ _ _ _ _ _ c.loop-pass.invariant.1 (omega arith) in
+    let made = running_out _ _ _ _ _ _ _ c.loop-pass.invariant (omega arith) in
     record { ready_2 = made.0; same_crew_list = made.1.0; result_after = made.1.1 }

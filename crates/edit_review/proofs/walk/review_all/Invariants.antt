@@ -1,12 +1,10 @@
 -- As many more passes may follow as c + 1 leaves.
 -- Assumes nothing.
-use mathlib.Core.Path.{◌≡◌}
 use Prim.Native.Nat.{◌+◌, ◌-◌}
-use lib.ListN.{length, get_or}
-use Rattle.model.specs.Record.{record_length}
+use lib.ListN.{get_or}
 use Rattle.quality.specs.Numbers.{weights_in}
 use Rattle.edit_review.proofs.Turns.{Running}
 use Rattle.edit_review.proofs.walk.review_all.Given as goal
 
 abbrev pub invariant-loop-pass : goal.invariant-loop-pass
-invariant-loop-pass l = ((length l.rec ≡ record_length) × (length l.seniors ≡ 256)) × Running l.initial.rec l.index (weights_in l.w) l.rec l.seniors l.run (get_or l.initial.rec 2 0 + 1 - l._pass)
+invariant-loop-pass l = Running l.initial.rec l.index (weights_in l.w) l.rec l.seniors l.run (get_or l.initial.rec 2 0 + 1 - l._pass)

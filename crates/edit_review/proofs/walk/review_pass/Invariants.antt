@@ -1,11 +1,8 @@
 -- The candidates below k have been taken up.
 -- Assumes nothing.
-use mathlib.Core.Path.{◌≡◌}
-use lib.ListN.{length}
-use Rattle.model.specs.Record.{record_length}
 use Rattle.quality.specs.Numbers.{weights_in}
 use Rattle.edit_review.proofs.Turns.{Passing}
 use Rattle.edit_review.proofs.walk.review_pass.Given as goal
 
 abbrev pub invariant-loop-k : goal.invariant-loop-k
-invariant-loop-k l = ((length l.rec ≡ record_length) × (length l.seniors ≡ 256)) × Passing l.initial.rec l.index (weights_in l.w) l.initial.run l.rec l.seniors l.run l.k
+invariant-loop-k l = Passing l.initial.rec l.index (weights_in l.w) l.initial.run l.rec l.seniors l.run l.k

@@ -1,20 +1,17 @@
 -- The users that are not in `rest` have their samples.
 -- Assumes nothing.
-use native.Mathlib.Omega.{arith}
 use Rattle.edit_work.proofs.Sampling.{adding_start, adding_more, adding_room, adding_all}
 use Rattle.sets.proofs.Taken.{begun}
 use Rattle.edit_work.proofs.samples.add_samples.Goals as goal
 
 pub loop-u-init : goal.loop-u-init
-loop-u-init c = rw (begun c.into_iter-u-iterator.ensures.into_iter_gives c.items-u-items.ensures) (adding_start _ _ _ _ c.requires.1)
+loop-u-init c = rw (begun c.into_iter-u-iterator.ensures.into_iter_gives c.items-u-items.ensures) (adding_start _ _ _ _)
 
 pub add_sample-found-requires : goal.add_sample-found-requires
-add_sample-found-requires c = let inv = c.loop-u.invariant in
-    let room = c.requires.2 in
-    record { table_len = inv.size; count_bound = adding_room _ _ _ _ _ _ _ _ inv room c.in-Some.ensures.steps.0.there }
+add_sample-found-requires c = adding_room _ _ _ _ _ _ _ _ c.loop-u.invariant c.requires c.in-Some.ensures.steps.0.there
 
 pub loop-u-preserved : goal.loop-u-preserved
-loop-u-preserved c = adding_more _ _ _ _ _ _ _ _ _ _ _ _ c.loop-u.invariant c.in-Some.ensures.steps.0.there c.load.ensures (omega arith)
+loop-u-preserved c = adding_more _ _ _ _ _ _ _ _ _ _ _ _ c.loop-u.invariant c.in-Some.ensures.steps.0.there c.load.ensures
     (c.add_sample-found.ensures.upper_bound, c.add_sample-found.ensures.by_index) c.in-Some.ensures.steps.1
 
 pub returns : goal.returns

@@ -14,14 +14,14 @@ use Rattle.indexes.proofs.own.own_roles.Goals as goal
 pub returns-in_default : goal.returns-in_default
 returns-in_default c = let row = c.args.row in
     let l = subst (Finds _ _ _) c.in_default.is c.search.ensures in
-    λ st crew at n src lu own h.
+    λ st crew n src lu own h.
     let z : set_of row ≡ 0 =
-    equal_or (set_of row) 0 (λ e. e) (λ d. absurd (own_missing st crew at n _ _ src _ _ lu own d c.in_default.field-0 l)) in
-    (own_more st _ _ _ _ h (◌⊎◌.inl (sym own ∙ z)), c.empty-roles.ensures ∙ sym (own_none st crew at n _ _ src _ _ lu own z))
+    equal_or (set_of row) 0 (λ e. e) (λ d. absurd (own_missing st crew n _ _ src _ _ lu own d c.in_default.field-0 l)) in
+    (own_more st _ _ _ _ h (◌⊎◌.inl (sym own ∙ z)), c.empty-roles.ensures ∙ sym (own_none st crew n _ _ src _ _ lu own z))
 
 pub learn-own-requires : goal.learn-own-requires
 learn-own-requires c = let l = subst (Finds _ _ _) c.in-Ok.is c.search.ensures in
-    (search rules, search rules, omega arith, search rules)
+    (search rules, omega arith, search rules)
 
 pub overflow_mul-e : goal.overflow_mul-e
 overflow_mul-e c = let l = subst (Finds _ _ _) c.in-Ok.is c.search.ensures in
@@ -33,9 +33,9 @@ load-requires c = let l = subst (Finds _ _ _) c.in-Ok.is c.search.ensures in
 
 pub returns : goal.returns
 returns c = let l = subst (Finds _ _ _) c.in-Ok.is c.search.ensures in
-    λ st crew at n src lu own h.
-    let role = own_role st crew at n _ _ src _ _ lu own _ l.0 l.1 in
-    let k = c.learn-own.ensures st crew at n _ _ src l.0 lu role h in (
+    λ st crew n src lu own h.
+    let role = own_role st crew n _ _ src _ _ lu own _ l.0 l.1 in
+    let k = c.learn-own.ensures st crew n _ _ src l.0 lu role h in (
       own_more st _ _ _ _ k.0 (◌⊎◌.inr (_, k.1, role)),
-      own_found st crew at n _ _ src _ _ lu own _ l.0 l.1 _ (k.0.entries _ k.1).1 _ _ c.load.ensures c.insert-roles.ensures,
+      own_found st crew n _ _ src _ _ lu own _ l.0 l.1 _ (k.0.entries _ k.1).1 _ _ c.load.ensures c.insert-roles.ensures,
     )

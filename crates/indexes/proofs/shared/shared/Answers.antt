@@ -1,10 +1,7 @@
 -- What is left are the roles of all users that were met.
 -- Assumes nothing.
-use native.Mathlib.Omega.{arith}
 use Rattle.sets.proofs.Order.{∖-iff}
 use Rattle.indexes.proofs.Owning.{sharing_start, sharing_more, sharing_end}
-use Rattle.std.proofs.Common.{ap}
-use mathlib.Core.Bool.{not}
 use Rattle.sets.proofs.Taken.{begun}
 use Rattle.indexes.proofs.shared.shared.Goals as goal
 

@@ -1,17 +1,17 @@
--- The tables are stored as the regions of the index.
+-- Each table holds what its function promises.
 -- Assumes nothing.
-use mathlib.Core.Path.{◌≡◌}
-use native.Mathlib.Omega.{arith}
-use lib.ListN.{length}
-use Rattle.model.specs.State.{roles_of}
-use Rattle.stores.proofs.Stores.{part_back}
-use Rattle.indexes.specs.Index.{users_start}
-use Rattle.indexes.proofs.Sources.{indexed}
+use borrow.Author.Rules.{rules}
+use mathlib.Core.Path.{sym}
+use Rattle.indexes.proofs.Sources.{source_count, users_held, indexed}
 use Rattle.indexes.proofs.state.fill_index.Goals as goal
+
+pub fill_roles-own-requires : goal.fill_roles-own-requires
+fill_roles-own-requires c = let p = c.requires.fills_from in
+    (c.requires.rows_len, search rules, p.few_candidates, p.grows)
 
 pub returns : goal.returns
 returns c = λ st src.
-    let index = c.args.index.now in
-    let size : length c.fill_tables.new.users ≡ 256 = omega arith in
-    rw (c.copy-2.ensures, c.copy.ensures, part_back index users_start 256 c.fill_tables.new.users size (omega arith))
-    (indexed (roles_of st) index _ _ _ (omega arith) (omega arith) (omega arith) size (c.fill_tables.ensures st src))
+    let met = c.fill_roles-own.ensures st src in
+    let users = users_held st _ _ _ _ src _ _ met.1.0 c.fill_columns.ensures.0 in
+    let low = c.fill_shared.ensures st src.limits (source_count st _ _ _ _ src) (λ u l. met.1.0 u (rw src.users at l)) users (rw (sym src.users) at met.0) in
+    indexed st _ _ _ _ src _ low met.1.0 users

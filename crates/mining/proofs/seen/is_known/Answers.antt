@@ -13,7 +13,7 @@ pub returns-then-eq-2 : goal.returns-then-eq-2
 returns-then-eq-2 c = rw c.if-eq-2.true
     (elim c.if-eq.branch [
       | then-eq w ↦ ◌⊎◌.inl (eqb-true _ _ (sym (c.eq.ensures ∙ equal_sets c.args.y c.args.x (search words) (search words)) ∙ w.if-eq.true))
-      | else-eq w ↦ known_there _ _ _ _ _ w.slot_of.ensures w.load.ensures (sym (w.eq-else-eq.ensures ∙ equal_sets c.args.y w.load.result (search words) (search words)) ∙ sym w.value-is ∙ c.if-eq-2.true)
+      | else-eq w ↦ known_there _ _ c.args.y _ _ c.told-seen w.slot_of.ensures (sym w.eq-else-eq.ensures ∙ sym w.value-is ∙ c.if-eq-2.true)
     ])
 
 pub returns-else-eq-2 : goal.returns-else-eq-2

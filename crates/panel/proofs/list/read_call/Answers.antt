@@ -2,7 +2,6 @@
 -- Assumes nothing.
 use mathlib.Core.Path.{sym}
 use native.Mathlib.Omega.{arith}
-use Rattle.quality.specs.Numbers.{weights_in, weights_of, tolerance_in, tolerance_of}
 use Rattle.panel.proofs.Serving.{call_strike, call_restore, call_eliminate, call_review}
 use Rattle.panel.proofs.list.read_call.Goals as goal
 
@@ -13,9 +12,7 @@ pub returns-in-1 : goal.returns-in-1
 returns-in-1 c = sym (call_restore _ _ (λ e. let z : ⊥ = omega arith in z) c.in-1.is)
 
 pub returns-in-2 : goal.returns-in-2
-unfolding weights_in weights_of tolerance_in tolerance_of
 returns-in-2 c = sym (call_eliminate _ _ (λ e. let z : ⊥ = omega arith in z) (λ e. let z : ⊥ = omega arith in z) c.in-2.is)
 
 pub returns-in_default : goal.returns-in_default
-unfolding weights_in weights_of
 returns-in_default c = sym (call_review _ _ (λ e. let z : ⊥ = omega arith in z) (λ e. let z : ⊥ = omega arith in z) (λ e. let z : ⊥ = omega arith in z))

@@ -19,45 +19,48 @@ use mathlib.Core.Bool.{not}
 use Rattle.records.proofs.check.is_sound.Goals.{Else-not-is_subset, Else-not-within}
 
 -- the limits are kept
-limited-at : (c : Else-not-within) → So (limited c.args.rec.now c.requires.rec_len)
+limited-at : (c : Else-not-within) → So (limited c.args.rec.now c.told-rec)
 limited-at c = sym c.within.ensures ∙ c.if-not-within.false
 
 limits-at : (c : Else-not-is_subset) → Limits (state_of c.args.rec.now)
 limits-at c =
-    let w = subst (Mines _ _) c.in-Some.is c.mine.ensures in
-    limits _ c.requires.rec_len (limited-at (goal.at.Else-not-is_subset c).Else-not-within) _ w.holds.count w.holds.frame.few
+    let w = subst (Mines _ _) c.in-Some.is (rw c.crew_rows.ensures.value at c.mine.ensures) in
+    limits _ c.told-rec (limited-at (goal.at.Else-not-is_subset c).Else-not-within) _ w.holds.count w.holds.frame.few
     _ _ _ c.load.ensures c.below.ensures c.is_subset.ensures (ap not c.if-not-is_subset.false)
 
 pub returns-then-not-within : goal.returns-then-not-within
-returns-then-not-within c = let no = unlimited _ c.requires.rec_len _ c.within.ensures (ap not c.if-not-within.true) in
+returns-then-not-within c = let no = unlimited _ c.told-rec _ c.within.ensures (ap not c.if-not-within.true) in
     record { value = no; ready = λ s. absurd (So-not (sym no) s) }
 
-pub mine-requires : goal.mine-requires
-mine-requires c = let ws = c.args.rec.now in
-    let full = c.requires.rec_len in
-    let few = limited_users ws full (limited-at (goal.at.mine-requires c).Else-not-within) in
+pub crew_rows-requires : goal.crew_rows-requires
+crew_rows-requires c = let ws = c.args.rec.now in
+    let full = c.told-rec in
+    let few = limited_users ws full (limited-at (goal.at.crew_rows-requires c).Else-not-within) in
     let room : 8 + 4 * get_or ws 0 0 ≤ length ws = omega arith in
-    (room, search rules, blank table256_length)
+    room
+
+pub mine-requires : goal.mine-requires
+mine-requires c = (search rules, blank table256_length)
 
 pub returns-in_default : goal.returns-in_default
-returns-in_default c = let no = too_many _ c.requires.rec_len (subst (Mines _ _) c.in_default.is c.mine.ensures) in
+returns-in_default c = let no = too_many _ c.told-rec (subst (Mines _ _) c.in_default.is (rw c.crew_rows.ensures.value at c.mine.ensures)) in
     record { value = no; ready = λ s. absurd (So-not (sym no) s) }
 
 pub returns-then-not-is_subset : goal.returns-then-not-is_subset
-returns-then-not-is_subset c = let w = subst (Mines _ _) c.in-Some.is c.mine.ensures in
-    let no = too_high _ c.requires.rec_len (limited-at (goal.at.returns-then-not-is_subset c).Else-not-within) _ w.holds.count w.holds.frame.few
+returns-then-not-is_subset c = let w = subst (Mines _ _) c.in-Some.is (rw c.crew_rows.ensures.value at c.mine.ensures) in
+    let no = too_high _ c.told-rec (limited-at (goal.at.returns-then-not-is_subset c).Else-not-within) _ w.holds.count w.holds.frame.few
     _ _ _ c.load.ensures c.below.ensures c.is_subset.ensures (ap not c.if-not-is_subset.true) in
     record { value = no; ready = λ s. absurd (So-not (sym no) s) }
 
 pub is_headed-requires : goal.is_headed-requires
 unfolding state_of
-is_headed-requires c = let full = c.requires.rec_len in
-    record { rec_len = full; rec_bound = limited_users c.args.rec.now full (limited-at (goal.at.is_headed-requires c).Else-not-within); written = subst (Mines _ _) c.in-Some.is c.mine.ensures }
+is_headed-requires c = let full = c.told-rec in
+    record { rec_bound = limited_users c.args.rec.now full (limited-at (goal.at.is_headed-requires c).Else-not-within); written = subst (Mines _ _) c.in-Some.is (rw c.crew_rows.ensures.value at c.mine.ensures) }
 
 pub returns-then-not-is_headed : goal.returns-then-not-is_headed
-returns-then-not-is_headed c = let no = unheaded _ c.requires.rec_len _ c.is_headed.ensures (ap not c.if-not-is_headed.true) in
+returns-then-not-is_headed c = let no = unheaded _ c.told-rec _ c.is_headed.ensures (ap not c.if-not-is_headed.true) in
     record { value = no; ready = λ s. absurd (So-not (sym no) s) }
 
 pub matches-requires : goal.matches-requires
 matches-requires c = let given = c.requires in
-    record { rec_len = given.rec_len; limits = limits-at (goal.at.matches-requires c).Else-not-is_subset; headed = passed _ c.is_headed.ensures (ap not c.if-not-is_headed.false); index_len = search rules; seniors_len = search rules; by_index = given.by_index }
+    record { limits = limits-at (goal.at.matches-requires c).Else-not-is_subset; headed = passed _ c.is_headed.ensures (ap not c.if-not-is_headed.false) }

@@ -8,14 +8,17 @@ use Rattle.records.proofs.check.within.Goals as goal
 use Rattle.std.proofs.Common.{ap}
 use mathlib.Core.Bool.{not}
 
+pub crew_rows-requires : goal.crew_rows-requires
+crew_rows-requires c = let k = (within_limits_iff _ _).0 (sym c.limits_kept.ensures ∙ c.if-limits_kept.true) in
+    let few = k.1 in
+    omega arith
+
 pub rows_within-requires : goal.rows_within-requires
 rows_within-requires c = let k = (within_limits_iff _ _).0 (sym c.limits_kept.ensures ∙ c.if-limits_kept.true) in
-    let a = k.1 in
-    let b = k.3 in
-    record { n_in_bounds = omega arith; m_bound = omega arith }
+    record { m_bound = k.3 }
 
 pub returns-then-limits_kept : goal.returns-then-limits_kept
-returns-then-limits_kept c = first_holds _ _ _ _ c.limits_kept.ensures (ap not c.if-limits_kept.true) c.rows_within.ensures
+returns-then-limits_kept c = first_holds _ _ _ _ c.limits_kept.ensures (ap not c.if-limits_kept.true) (rw c.crew_rows.ensures.value at c.rows_within.ensures)
 
 pub returns-else-limits_kept : goal.returns-else-limits_kept
 returns-else-limits_kept c = c.if-limits_kept.false ∙ first_fails _ _ _ c.limits_kept.ensures (ap not c.if-limits_kept.false)

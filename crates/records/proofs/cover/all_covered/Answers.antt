@@ -13,4 +13,4 @@ pub returns : goal.returns
 returns c = λ st src same ix.
     all_told _ (each_grant_covered st) _ _ _ c.all.ensures.ran (YieldsList-from_range 0 _ _ refl (omega arith))
     (λ u t q k. (search rules, λ lu. search (rules, c.load-standing.ensures ∙ same)))
-    ∙ sym (users_counted st _ _ _ _ _ src)
+    ∙ sym (users_counted st _ _ _ _ src)

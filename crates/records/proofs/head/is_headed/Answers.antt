@@ -15,23 +15,23 @@ use mathlib.Core.Bool.{not}
 
 pub returns-then-unused_zero : goal.returns-then-unused_zero
 returns-then-unused_zero c =
-    let fits : (i : ℕ) → get_or c.args.rec.now i 0 < 2 ^ 64 = λ i. (c.type_inv.rec i).fits in
+    let fits : (i : ℕ) → get_or c.args.rec.now i 0 < 2 ^ 64 = c.fits-rec in
     let given = c.requires in (
       λ t. elim c.if-rec-c.branch [
         | then-rec-c w ↦
-            headed_of _ _ _ fits given.rec_len given.rec_bound given.written w.if-rec-c.true
+            headed_of _ _ _ fits c.told-rec given.rec_bound given.written w.if-rec-c.true
             (passed _ w.unused_zero.ensures (ap not (sym w.value-is ∙ c.if-unused_zero.true))) (sym c.equal_at.ensures ∙ t)
         | else-rec-c w ↦ absurd (w.if-rec-c.false ((eqb_iff _ _).0 (sym w.value-is ∙ c.if-unused_zero.true)))
       ],
-      λ h. c.equal_at.ensures ∙ headed_table _ _ _ fits given.rec_len given.rec_bound given.written h,
+      λ h. c.equal_at.ensures ∙ headed_table _ _ _ fits c.told-rec given.rec_bound given.written h,
     )
 
 pub returns-else-unused_zero : goal.returns-else-unused_zero
 returns-else-unused_zero c =
-    let fits : (i : ℕ) → get_or c.args.rec.now i 0 < 2 ^ 64 = λ i. (c.type_inv.rec i).fits in
+    let fits : (i : ℕ) → get_or c.args.rec.now i 0 < 2 ^ 64 = c.fits-rec in
     let given = c.requires in
     let no : Headed (state_of c.args.rec.now) c.args.rec.now → ⊥ = λ h. elim c.if-rec-c.branch [
-      | then-rec-c w ↦ failed _ w.unused_zero.ensures (ap not (sym w.value-is ∙ c.if-unused_zero.false)) (headed_unused _ _ _ fits given.rec_len given.rec_bound given.written h)
-      | else-rec-c w ↦ w.if-rec-c.false (headed_count _ _ _ fits given.rec_len given.rec_bound given.written h)
+      | then-rec-c w ↦ failed _ w.unused_zero.ensures (ap not (sym w.value-is ∙ c.if-unused_zero.false)) (headed_unused _ _ _ fits c.told-rec given.rec_bound given.written h)
+      | else-rec-c w ↦ w.if-rec-c.false (headed_count _ _ _ fits c.told-rec given.rec_bound given.written h)
     ] in
     (λ t. absurd (So-not c.if-unused_zero.false t), λ h. absurd (no h))

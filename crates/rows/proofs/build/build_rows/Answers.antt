@@ -5,5 +5,5 @@ use Rattle.rows.proofs.Building.{rows_built}
 use Rattle.rows.proofs.build.build_rows.Goals as goal
 
 pub returns : goal.returns
-returns c = λ st lim b ix. rows_built st lim _ _ b ix _ _ _ c.args.seniors.now _ c.load-standing.ensures c.fill_uppers.ensures
-    c.requires.by_index c.fill_columns.ensures (omega (arith, c.requires.seniors_len, c.fill_columns.auto)) c.fill_lowers.ensures
+returns c = λ st lim b ix. rows_built st lim _ _ b ix _ _ _ c.clear.new.ws _ c.load-standing.ensures c.fill_uppers.ensures
+    c.clear.ensures c.fill_columns.ensures (omega arith) c.fill_lowers.ensures

@@ -1,11 +1,8 @@
 -- The roles from number j on still have their old members.
 -- Assumes nothing.
-use mathlib.Core.Path.{◌≡◌}
 use Prim.Native.Nat.{ℕ}
-use lib.ListN.{length}
 use Rattle.sets.specs.Held.{set_of}
 use Rattle.model.specs.Hierarchy.{RoleRows}
-use Rattle.model.specs.Record.{record_length}
 use Rattle.model.specs.State.{State}
 use Rattle.rows.specs.Linked.{Linked}
 use Rattle.rows.specs.Partway.{Partway, Target}
@@ -13,5 +10,4 @@ use Rattle.rows.proofs.Rewriting.{from}
 use Rattle.rows.proofs.lower.fill_lowers.Given as goal
 
 abbrev pub invariant-loop-j : goal.invariant-loop-j
-invariant-loop-j l = (length l.rec ≡ record_length)
-    × ((old : RoleRows) (st : State) (p : ℕ) → Target st (set_of l.standing) l.index → Linked l.initial.rec l.seniors → Partway old st 0 p (set_of l.standing) l.initial.rec → Partway old st 0 p (from (set_of l.standing) l.j) l.rec × Linked l.rec l.seniors)
+invariant-loop-j l = (old : RoleRows) (st : State) (p : ℕ) → Target st (set_of l.standing) l.index → Linked l.initial.rec l.seniors → Partway old st 0 p (set_of l.standing) l.initial.rec → Partway old st 0 p (from (set_of l.standing) l.j) l.rec × Linked l.rec l.seniors

@@ -23,12 +23,12 @@ returns-then-not-uppers_match c = λ st lim h ix.
 pub returns : goal.returns
 returns c = λ st lim h ix.
     let ws = c.args.rec.now in
-    let fits : (i : ℕ) → get_or ws i 0 < 2 ^ 64 = λ i. (c.type_inv.rec i).fits in
+    let fits : (i : ℕ) → get_or ws i 0 < 2 ^ 64 = c.fits-rec in
     let count = count_told st ws h in
     let to = standing_told st ws h lim _ _ c.load-standing.ensures ix in
     let none : NoneBehind ws (candidate_count (roles_of st)) = rw count (passed _ c.none_behind.ensures (ap not c.if-not-none_behind.false)) in
     let held : (k : ℕ) → k < candidate_count (roles_of st) → UpperHeld st ws k = λ k l. passed _ (c.uppers_match.ensures st to h) (ap not c.if-not-uppers_match.false) k (rw count at l) in
-    let linked = seniors_linked st lim ws fits none held _ _ _ c.args.seniors.now _ to count c.requires.by_index c.fill_columns.ensures (omega (arith, c.requires.seniors_len, c.fill_columns.auto)) in
+    let linked = seniors_linked st lim ws fits none held _ _ _ c.clear.new.ws _ to count c.clear.ensures c.fill_columns.ensures (omega arith) in
     let lowers = c.lowers_match.ensures st to linked (juniors_held st lim ws fits none held _ to.standing) in (
       (
         λ t. rows_built st lim ws fits none held h (λ k l. lowers.0 t k (rw count at l)),

@@ -15,7 +15,7 @@ pub put_row-at-requires : goal.put_row-at-requires
 put_row-at-requires c = let a = c.args in
     let u = c.loop-u.u in
     let rows = rows_at a.n a.rec.now crew_start in
-    record { rec_len = omega arith; u_bound = omega arith; m_bound = omega arith; m_in_bounds = omega (arith, length-rows_more a.m rows u, length-rows_fewer a.m rows (suc u) a.n (omega arith)) }
+    record { u_bound = omega arith; m_bound = omega arith; m_in_bounds = omega (arith, length-rows_more a.m rows u, length-rows_fewer a.m rows (suc u) a.n (omega arith)) }
 
 pub loop-u-preserved : goal.loop-u-preserved
 loop-u-preserved c = rows_more _ _ _ _ _ _ _ _ _ _ (omega arith) c.loop-u.invariant (c.put_row-at.ensures.value, c.put_row-at.ensures.out_after)
