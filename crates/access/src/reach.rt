@@ -1,19 +1,18 @@
-ghost use Rattle.std.specs.Prelude.{◌≡◌, ℕ, ◌^◌, ◌≤◌, ◌<◌, length};
+ghost use Rattle.std.specs.Prelude.{◌≡◌, ℕ, ◌^◌, ◌≤◌, ◌<◌};
 ghost use Rattle.sets.specs.Held.{set_of};
 ghost use Rattle.sets.specs.Sets.{has, ◌∪◌};
 ghost use Rattle.sets.specs.Truth.{when◌then◌else◌};
 ghost use Rattle.model.specs.Hierarchy.{RoleRows};
 ghost use Rattle.model.specs.Chains.{link, reached};
-ghost use Rattle.tables.specs.Tables.{HoldsSets, table128_length};
+ghost use Rattle.tables.specs.Tables.{HoldsSets};
 ghost use Rattle.access.specs.Reach.{Downward};
 
 use sets::Set128;
-use tables::load;
+use tables::{Table128, load};
 
 // The roles that those of s reach by zero or more links. A junior has a lower number, so one pass downward meets each role after all that
-// lead to it.
-pub fn reached_from(juniors: &[u64], s: Set128) -> Set128
-    requires { length juniors.now ≡ table128_length }
+// lead to it. Over all numbers and not over the items of a set: the set grows on the way.
+pub fn reached_from(juniors: &Table128, s: Set128) -> Set128
     ensures { (b : RoleRows) (c : ℕ) → c ≤ 128 → HoldsSets 2 c b.juniors juniors.now → Downward c b → set_of s < 2 ^ c → set_of result ≡ reached (link b) c (set_of s) }
 {
     let mut found = s;

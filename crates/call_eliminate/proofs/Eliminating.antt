@@ -19,7 +19,7 @@ use Rattle.call_eliminate.specs.Results.{eliminate_result}
 
 pub run_ended : (ws after : List ℕ) (index : Index) (seniors : List ℕ) (w : Weights) (t : Tolerance) (g : Progress) → unfit ws ≡ 0 → refusal (state_of ws) (eliminate w t) ≡ 0
     → EliminationEnded (state_of ws) after index seniors g (eliminated (roles_of (state_of ws)) w t (state_of ws).standing)
-    → eliminate_result (Ok (record { removed = g.changed; examined = g.examined })) after ≡ edit ws (eliminate w t)
+    → eliminate_result (Ok (record { changed = g.changed; examined = g.examined })) after ≡ edit ws (eliminate w t)
 unfolding accepted run_at
 run_ended ws after index seniors w t g z e done =
     edit_accepted ws (eliminate w t) z e (run_at after g (eliminated (roles_of (state_of ws)) w t (state_of ws).standing).worklist) after (sym done.run)

@@ -5,8 +5,8 @@ use Rattle.model.specs.Machine.{reply}
 use Rattle.model.specs.Calls.{Edited}
 use Rattle.refusals.specs.declared.Refusal.{Refusal}
 use Rattle.refusals.specs.Numbers.{number_of}
-use Rattle.call_eliminate.specs.declared.Eliminated.{Eliminated}
+use Rattle.calls_edit.specs.declared.Done.{Done}
 
-abbrev pub eliminate_result : Result Eliminated Refusal → List ℕ → Edited
-eliminate_result (Ok done) ws = record { replied = reply 0 done.removed done.examined; words = ws }
+abbrev pub eliminate_result : Result Done Refusal → List ℕ → Edited
+eliminate_result (Ok done) ws = record { replied = reply 0 done.changed done.examined; words = ws }
 eliminate_result (Err r) ws = record { replied = reply (number_of r) 0 0; words = ws }

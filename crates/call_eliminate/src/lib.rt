@@ -12,19 +12,13 @@ ghost use Rattle.refusals.specs.Numbers.{code_of};
 ghost use Rattle.call_eliminate.specs.Results.{eliminate_result};
 
 use calls::{allowed_weights, enter};
+use calls_edit::Done;
 use edit_eliminate::eliminate_all;
 use edit_turn::Terms;
 use indexes::Index;
 use quality::{Tolerance, count_rows};
 use refusals::Refusal;
 use tables::Record;
-
-// How many roles an elimination struck, and how many it examined.
-#[derive(Clone, Copy)]
-pub struct Eliminated {
-    pub removed: u64,
-    pub examined: u64,
-}
 
 // A call's tolerance; refused where it is outside its range.
 fn allowed_tolerance(a: u64, b: u64) -> Result<Tolerance, Refusal>
@@ -54,18 +48,18 @@ pub fn panel_eliminate(
     w4: u64,
     a: u64,
     b: u64,
-) -> Result<Eliminated, Refusal>
+) -> Result<Done, Refusal>
     ensures { eliminate_result result rec.new ≡ edit rec.old (eliminate (weights_of w1 w2 w3 w4) (tolerance_of a b)) }
 {
     let mut index = Index::empty();
     let mut seniors = [0u64; 256];
     enter(rec, &mut index, &mut seniors)?;
-    let terms = allowed_terms(w1, w2, w3, w4, a, b)?;
     let rec: &mut Record = rec.as_mut_array().unwrap();
+    let terms = allowed_terms(w1, w2, w3, w4, a, b)?;
     let counts = count_rows(rec);
     let run = eliminate_all(rec, &mut index, &mut seniors, terms, counts);
-    Ok(Eliminated {
-        removed: run.changed,
+    Ok(Done {
+        changed: run.changed,
         examined: run.examined,
     })
 }

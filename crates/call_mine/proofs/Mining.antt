@@ -10,9 +10,8 @@ use lib.ListN.{length}
 use Rattle.sets.proofs.Truth.{not-So, eqb_iff, when-true, when-false}
 use Rattle.model.specs.Lists.{rows_at}
 use Rattle.model.specs.Candidates.{candidates}
-use Rattle.model.specs.Hierarchy.{candidate_count}
 use Rattle.model.specs.Record.{record_length, built, Limits}
-use Rattle.model.specs.State.{roles_of, fresh, within_limits, rows_within}
+use Rattle.model.specs.State.{fresh, within_limits, rows_within}
 use Rattle.model.specs.Refusals.{◌or_else◌, length_refusal, limits_refusal, crew_refusal, candidates_refusal}
 use Rattle.model.specs.Calls.{mining_refusal, mine}
 use Rattle.model.proofs.Record.{within_limits_iff}
@@ -71,10 +70,6 @@ module _ (n m : ℕ) (crew ws : List ℕ) where
 
       pub mined_limits : Limits (fresh n m (rows_at n crew 0))
       mined_limits = (mining_fit n m crew ws none).limits
-
-      pub mined_count : candidate_count (roles_of (fresh n m (rows_at n crew 0))) ≡ c
-      unfolding fresh roles_of candidate_count
-      mined_count = sym count
 
       -- c, and the record built afresh with all candidates standing
       pub mined : (after : List ℕ) → after ≡ built (fresh n m (rows_at n crew 0)) → mine_result (Ok c) after ≡ mine n m crew ws

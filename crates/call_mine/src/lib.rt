@@ -8,10 +8,10 @@ ghost use Rattle.call_mine.specs.Results.{mine_result};
 
 use calls::length_refusal;
 use limits::{crew_refusal, limits_refusal};
-use mining::mine;
+use mining::{Candidates, mine};
 use records::write_fresh;
 use refusals::Refusal;
-use tables::crew_rows;
+use tables::as_rows;
 
 // Refuses what can be told without mining.
 fn lent_refusal(n: u64, m: u64, crew: &[u64], rec: &[u64]) -> Result<(), Refusal>
@@ -28,11 +28,11 @@ pub fn panel_mine(n: u64, m: u64, crew: &[u64], rec: &mut [u64]) -> Result<u64, 
     ensures { mine_result result rec.new ≡ mine n m crew.now rec.old }
 {
     lent_refusal(n, m, crew, rec)?;
-    let mut table = [0u64; 512];
-    let rows = crew_rows(crew, 0, n as usize);
-    let Some(c) = mine(rows, &mut table) else {
+    let rows = as_rows(crew, 0, n as usize);
+    let mut found = Candidates::none();
+    let Some(c) = mine(rows, &mut found) else {
         return Err(Refusal::Candidates);
     };
-    write_fresh(rec.as_mut_array().unwrap(), &table, rows, m, c);
+    write_fresh(rec.as_mut_array().unwrap(), &found, rows, m);
     Ok(c as u64)
 }

@@ -27,7 +27,7 @@ by_weights st w = refl
 -- the record that the passes leave
 pub given : (ws after : List ℕ) (index : Index) (seniors : List ℕ) (w : Weights) (g : Progress) → unfit ws ≡ 0 → refusal (state_of ws) (review w) ≡ 0
     → Ready (state_of after) after index seniors → SameCrewList (state_of ws) after → run_at after g 0 ≡ reviewed (roles_of (state_of ws)) w (state_of ws).standing
-    → review_result (Ok (record { restored = g.changed; examined = g.examined })) after ≡ edit ws (review w)
+    → review_result (Ok (record { changed = g.changed; examined = g.examined })) after ≡ edit ws (review w)
 unfolding accepted run_at
 given ws after index seniors w g z e ready same_crew run =
     edit_accepted ws (review w) z e (run_at after g 0) after (sym run) (crew-built (state_of ws) after index seniors ready same_crew)

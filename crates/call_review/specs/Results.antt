@@ -5,8 +5,8 @@ use Rattle.model.specs.Machine.{reply}
 use Rattle.model.specs.Calls.{Edited}
 use Rattle.refusals.specs.declared.Refusal.{Refusal}
 use Rattle.refusals.specs.Numbers.{number_of}
-use Rattle.call_review.specs.declared.Reviewed.{Reviewed}
+use Rattle.calls_edit.specs.declared.Done.{Done}
 
-abbrev pub review_result : Result Reviewed Refusal → List ℕ → Edited
-review_result (Ok done) ws = record { replied = reply 0 done.restored done.examined; words = ws }
+abbrev pub review_result : Result Done Refusal → List ℕ → Edited
+review_result (Ok done) ws = record { replied = reply 0 done.changed done.examined; words = ws }
 review_result (Err r) ws = record { replied = reply (number_of r) 0 0; words = ws }

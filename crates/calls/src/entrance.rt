@@ -38,8 +38,8 @@ pub fn soundness_refusal(
 pub fn enter(rec: &[u64], index: &mut Index, seniors: &mut Table128) -> Result<(), Refusal>
     ensures { Entered rec.now index.new seniors.new result }
 {
-    let rec: &Record = rec.as_array().ok_or(Refusal::Length)?;
-    soundness_refusal(rec, index, seniors)
+    length_refusal(rec)?;
+    soundness_refusal(rec.as_array().unwrap(), index, seniors)
 }
 
 // The same for a call that asks nothing of the index: it gives the record.

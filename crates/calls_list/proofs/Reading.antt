@@ -1,15 +1,14 @@
 -- Whether a list can be read.
 -- Assumes nothing.
 use mathlib.Core.Path.{◌≡◌, sym}
-use mathlib.Core.Bool.{true, false, So}
+use mathlib.Core.Bool.{false, So}
 use mathlib.Core.Logic.{◌↔◌}
 use mathlib.Core.List.{List}
-use Prim.Native.Nat.{ℕ, ◌+◌, ◌*◌, ◌/◌, ◌≤◌, ◌<◌}
-use native.Mathlib.Omega.{arith}
+use Prim.Native.Nat.{ℕ, ◌*◌, ◌/◌, ◌<◌}
 use lib.Dec.{eqb, ltb}
 use lib.ListN.{length, get_or}
 use Rattle.sets.specs.Truth.{◌and◌, all}
-use Rattle.sets.proofs.Truth.{not-So, and_iff, all_iff, eqb_iff, ltb_iff, all_more}
+use Rattle.sets.proofs.Truth.{not-So, same_test, and_iff, all_iff, eqb_iff, ltb_iff}
 use Rattle.calls_list.specs.Encoding.{readable}
 
 module _ (ws out : List ℕ) where
@@ -36,12 +35,9 @@ module _ (ws out : List ℕ) where
   pub readable_not : ((7 * n ≡ length ws) × (length out ≡ 3 * n) × ((i : ℕ) → i < n → get_or ws (7 * i) 0 < 4) → ⊥) → false ≡ readable ws out
   readable_not d = sym (not-So (readable ws out) (λ h. d (readable_iff.0 h)))
 
-  pub readable_all : (i : ℕ) → 7 * n ≡ length ws → length out ≡ 3 * n → n ≤ i → So (all i (λ i. ltb (get_or ws (7 * i) 0) 4)) → true ≡ readable ws out
-  readable_all i a b l h =
-      sym (readable_iff.1 (a, b, λ j lj. (ltb_iff (get_or ws (7 * j) 0) 4).0 ((all_iff i (λ i. ltb (get_or ws (7 * i) 0) 4)).0 h j (let z : j < i = omega arith in z))))
-
-pub kinds_none : (ws : List ℕ) → So (all 0 (λ i. ltb (get_or ws (7 * i) 0) 4))
-kinds_none ws = (all_iff 0 (λ i. ltb (get_or ws (7 * i) 0) 4)).1 (λ i l. let z : ⊥ = omega arith in absurd z)
-
-pub kinds_more : (ws : List ℕ) (i : ℕ) → So (all i (λ i. ltb (get_or ws (7 * i) 0) 4)) → get_or ws (7 * i) 0 < 4 → So (all (i + 1) (λ i. ltb (get_or ws (7 * i) 0) 4))
-kinds_more ws i h l = all_more i (λ i. ltb (get_or ws (7 * i) 0) 4) h ((ltb_iff (get_or ws (7 * i) 0) 4).1 l)
+  -- where the sizes are right, the kinds decide
+  pub readable_kinds : 7 * n ≡ length ws → length out ≡ 3 * n → all n (λ i. ltb (get_or ws (7 * i) 0) 4) ≡ readable ws out
+  readable_kinds a b =
+      same_test (all n (λ i. ltb (get_or ws (7 * i) 0) 4)) (readable ws out)
+      (λ h. readable_iff.1 (a, b, λ i l. (ltb_iff (get_or ws (7 * i) 0) 4).0 ((all_iff n (λ i. ltb (get_or ws (7 * i) 0) 4)).0 h i l)))
+      (λ h. (all_iff n (λ i. ltb (get_or ws (7 * i) 0) 4)).1 (λ i l. (ltb_iff (get_or ws (7 * i) 0) 4).1 ((readable_iff.0 h).2 i l)))

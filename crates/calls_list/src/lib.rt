@@ -14,16 +14,8 @@ pub fn can_read(calls: &[u64], out: &[u64]) -> bool
     ensures { result ≡ readable calls.now out.now }
 {
     let n = calls.len() / CALL;
-    if CALL * n != calls.len() {
+    if CALL * n != calls.len() || out.len() != ANSWER * n {
         return false;
     }
-    if out.len() != ANSWER * n {
-        return false;
-    }
-    for i in 0..n {
-        if 4 <= calls[CALL * i] {
-            return false;
-        }
-    }
-    true
+    (0..n).all(|i| calls[CALL * i] < 4)
 }

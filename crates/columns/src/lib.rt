@@ -4,5 +4,5 @@
 mod all;
 mod one;
 
-pub use all::{fill_columns, fill_columns_of};
-pub use one::{column, column_of, gathered, in_first_word};
+pub use all::{fill_columns, fill_columns_for};
+pub use one::{column, gathered, in_first_word};

@@ -29,32 +29,23 @@ fn word_of<F: Fn(usize) -> bool>(test: &F, from: usize, count: usize) -> u64
 }
 
 // The places below n whose set in the table holds k: a column of the table, read downward.
-pub fn column(table: &[u64], n: usize, k: usize) -> Set128
+pub fn column<const WORDS: usize>(table: &[u64], n: usize, k: usize) -> Set128
     requires n_bound { n ≤ 128 }
-    requires n_in_bounds { 2 * n ≤ length table.now }
-    ensures { set_of result ≡ collect n (λ i. has (set_at 2 table.now (2 * i)) k) }
-{
-    column_of(table, 2, n, k)
-}
-
-// The same of a table with w words to a set.
-pub fn column_of(table: &[u64], w: usize, n: usize, k: usize) -> Set128
-    requires n_bound { n ≤ 128 }
-    requires n_in_bounds { w * n ≤ length table.now }
-    ensures { set_of result ≡ collect n (λ i. has (set_at w table.now (w * i)) k) }
+    requires n_in_bounds { WORDS * n ≤ length table.now }
+    ensures { set_of result ≡ collect n (λ i. has (set_at WORDS table.now (WORDS * i)) k) }
 {
     let p = place_of(k);
     let j = p.word;
     let b = p.bit;
-    if w <= j {
+    if WORDS <= j {
         return Set128::empty();
     }
     gathered(
         n,
         |i|
-            requires { (w * i + j < length table.now) × (b < 64) }
-            ensures { result ≡ has (get_or table.entry.now (w * i + j) 0) b }
-        { (table[w * i + j] >> b) & 1 == 1 },
+            requires { (WORDS * i + j < length table.now) × (b < 64) }
+            ensures { result ≡ has (get_or table.entry.now (WORDS * i + j) 0) b }
+        { (table[WORDS * i + j] >> b) & 1 == 1 },
     )
 }
 

@@ -17,7 +17,7 @@ use edit_turn::{Terms, Turn};
 use edit_work::{Work, fill_order};
 use holders::fill_holders;
 use indexes::Index;
-use quality::{Counts, weigh};
+use quality::Counts;
 use sets::Set256;
 use tables::{Record, Table128};
 
@@ -67,12 +67,7 @@ pub fn eliminate_all(
     let m = rec[1] as usize;
     let c = rec[2] as usize;
     fill_holders(rec, index, Set256::below(m));
-    let progress = Progress {
-        counts,
-        quality: weigh(counts, terms.weights),
-        changed: 0,
-        examined: 0,
-    };
+    let progress = Progress::begin(counts, terms.weights);
     let worklist = strikable_roles(rec, index);
     if worklist.is_empty() {
         return progress;

@@ -4,14 +4,14 @@ use mathlib.Core.Path.{◌≡◌, sym, ◌∙◌, ap}
 use mathlib.Core.Bool.{So}
 use mathlib.Core.Logic.{⊎_elim}
 use mathlib.Core.List.{List}
-use Prim.Native.Nat.{ℕ, ◌+◌, ◌-◌, ◌*◌, ◌≤◌, ◌<◌}
+use Prim.Native.Nat.{ℕ, ◌+◌, ◌-◌, ◌≤◌, ◌<◌}
 use native.Mathlib.Nat.{le_refl, lt_irrefl}
 use native.Mathlib.Omega.{arith}
+use lib.ListN.{get_or}
 use Rattle.sets.specs.Sets.{has, ◌∩◌}
-use Rattle.sets.proofs.Truth.{So-not, equal_or}
-use Rattle.sets.proofs.Members.{has-zero}
+use Rattle.sets.proofs.Truth.{So-not, not-So, equal_or}
+use Rattle.sets.proofs.Members.{has-zero, below_of_items}
 use Rattle.sets.proofs.Order.{∩-iff}
-use Rattle.model.specs.Lists.{set_at}
 use Rattle.model.proofs.PassOrder.{before_iff, foremost_only}
 use Rattle.sets.specs.Extremes.{LowestItem}
 use Rattle.edit_order.specs.Ranking.{Keyed, NextRole}
@@ -30,15 +30,15 @@ module _ (ranks : List ℕ) (todo top rank : ℕ) (inv : Sinking ranks todo top 
   lowered key h k t = let l = inv.bound key h k t in let s = inv.low in (omega arith, λ q b. (h k t).1 q (omega arith))
 
   -- `front` are the roles of that rank
-  module _ (x front : ℕ) (some : 0 < rank) (ex : x ≡ set_at 2 ranks (2 * (rank - 1))) (ef : front ≡ x ∩ todo) where
-    here : front ≡ set_at 2 ranks (2 * (rank - 1)) ∩ todo
+  module _ (x front : ℕ) (some : 0 < rank) (ex : x ≡ get_or ranks (rank - 1) 0) (ef : front ≡ x ∩ todo) where
+    here : front ≡ get_or ranks (rank - 1) 0 ∩ todo
     here = ef ∙ ap (λ (y : ℕ). y ∩ todo) ex
 
     -- a role whose key it is is in front
     in_front : (key : ℕ → ℕ) → Keyed top ranks todo key → (k : ℕ) → So (has todo k) → rank - 1 ≡ key k → So (has front k)
     in_front key h k t e =
         let s = inv.low in
-        rw here ((∩-iff (set_at 2 ranks (2 * (rank - 1))) todo k).1 (((h k t).1 (rank - 1) (omega arith)).1 e, t))
+        rw here ((∩-iff (get_or ranks (rank - 1) 0) todo k).1 (((h k t).1 (rank - 1) (omega arith)).1 e, t))
 
     pub sinking_more : front ≡ 0 → Sinking ranks todo top (rank - 1)
     sinking_more none =
@@ -53,7 +53,7 @@ module _ (ranks : List ℕ) (todo top rank : ℕ) (inv : Sinking ranks todo top 
 
     pub sinking_found : (role : ℕ) → LowestItem 128 front role → NextRole ranks todo top role (rank - 1)
     sinking_found role low =
-        let a = (∩-iff (set_at 2 ranks (2 * (rank - 1))) todo role).0 (rw here at low.there) in
+        let a = (∩-iff (get_or ranks (rank - 1) 0) todo role).0 (rw here at low.there) in
         let s = inv.low in
         record {
           small = low.small;
@@ -76,13 +76,9 @@ module _ (ranks : List ℕ) (todo top rank : ℕ) (inv : Sinking ranks todo top 
           keyed = lowered;
         }
 
--- below all ranks: then no role has a key, which none is that is to do
-pub sinking_out : (ranks : List ℕ) (todo top rank role : ℕ) → Sinking ranks todo top rank → rank ≡ 0 → LowestItem 128 todo role → NextRole ranks todo top role 0
-sinking_out ranks todo top rank role inv e low =
-    record {
-      small = low.small;
-      there = low.there;
-      low = omega arith;
-      first = λ c key b h. absurd (let l = inv.bound key h role low.there in let z : ⊥ = omega arith in z);
-      keyed = λ key h k t. absurd (let l = inv.bound key h k t in let z : ⊥ = omega arith in z);
-    }
+-- below all ranks: then no role has a key, and so none is to do
+pub sinking_out : (ranks : List ℕ) (todo top rank : ℕ) → Sinking ranks todo top rank → rank ≡ 0 → (key : ℕ → ℕ) → Keyed top ranks todo key → todo ≡ 0
+sinking_out ranks todo top rank inv e key h =
+    let none : todo < 1 =
+    below_of_items 0 todo (λ i _. not-So (has todo i) (λ t. let l = inv.bound key h i t in let z : ⊥ = omega arith in z)) in
+    omega arith

@@ -1,11 +1,10 @@
 // Which role of a pass comes next.
-ghost use Rattle.std.specs.Prelude.{◌≢◌, ◌≤◌};
+ghost use Rattle.std.specs.Prelude.{◌≤◌};
 ghost use Rattle.sets.specs.Held.{set_of};
-ghost use Rattle.edit_order.specs.Ranking.{NextRole};
+ghost use Rattle.edit_order.specs.Ranking.{sets_of, Next};
 
 use crate::ranks::Ranks;
-use sets::{Set128, lowest_item};
-use tables::load;
+use sets::Set128;
 
 // The role that comes next, and its rank.
 #[derive(Clone, Copy)]
@@ -16,18 +15,14 @@ pub struct Front {
 
 // The role of `todo` of the highest rank, and of several such the lowest. No rank is above `top`: the rank of the role before, so that a pass walks
 // down the ranks once.
-pub fn foremost(ranks: &Ranks, todo: Set128, top: usize) -> Front
-    requires todo_nonzero { set_of todo ≢ 0 }
-    requires top_bound { top ≤ 128 }
-    ensures { NextRole ranks.now (set_of todo) top result.role result.rank }
+pub fn foremost(ranks: &Ranks, todo: Set128, top: usize) -> Option<Front>
+    requires { top ≤ 128 }
+    ensures { Next (sets_of ranks.now) (set_of todo) top result }
 {
     for rank in (0..top + 1).rev() {
-        if let Some(role) = load::<2>(ranks, 2 * rank).intersection(todo).lowest() {
-            return Front { role, rank };
+        if let Some(role) = ranks[rank].intersection(todo).lowest() {
+            return Some(Front { role, rank });
         }
     }
-    Front {
-        role: lowest_item(todo),
-        rank: 0,
-    }
+    None
 }

@@ -35,14 +35,13 @@ pub fn pass(
     ensures prepared_2 { Prepared (roles_of (state_of rec.new)) work.now }
 {
     let c = rec[2] as usize;
-    let mut ranks = [0u64; 258];
+    let mut ranks = [Set128::empty(); 129];
     fill_ranks(work, c, counted, turn.worklist, &mut ranks);
     let mut run = turn;
     let mut todo = turn.worklist;
     let mut top = c;
-    // the next is the foremost by its key, so this is no walk in the set's own order
-    while !todo.is_empty() {
-        let front = foremost(&ranks, todo, top);
+    // the next is the foremost by its rank, so this is no walk in the set's own order
+    while let Some(front) = foremost(&ranks, todo, top) {
         let k = front.role;
         run = take_up(rec, index, seniors, terms, k, run);
         todo = todo.remove(k);

@@ -29,13 +29,12 @@ pub fn try_restore(
     if load::<2>(rec, STANDING).contains(k) {
         return at;
     }
-    let before = at.counts;
-    let trial = if_restored(rec, index, before, k);
+    let trial = if_restored(rec, index, at.counts, k);
     let counts = trial.counts;
     let quality = weigh(counts, w);
     let examined = at.examined + 1;
     if quality < at.quality {
-        put_back_at(rec, index, seniors, k, trial.above, trial.below);
+        put_back_at(rec, index, seniors, k, trial.links);
         return Progress {
             counts,
             quality,
@@ -43,10 +42,5 @@ pub fn try_restore(
             examined,
         };
     }
-    Progress {
-        counts: before,
-        quality: at.quality,
-        changed: at.changed,
-        examined,
-    }
+    Progress { examined, ..at }
 }

@@ -10,7 +10,7 @@ ghost use Rattle.edit_review.specs.Reviewing.{Stepped, pass_room};
 use crate::turn::try_restore;
 use edit_trials::Progress;
 use indexes::Index;
-use quality::{Counts, Weights, weigh};
+use quality::{Counts, Weights};
 use tables::{Record, Table128};
 
 // A pass: the absent candidates by growing number.
@@ -48,12 +48,7 @@ pub fn review_all(
     ensures result_after { run_at rec.new result 0 ≡ reviewed (roles_of (state_of rec.old)) (weights_in w) (state_of rec.old).standing }
 {
     let c = rec[2] as usize;
-    let mut run = Progress {
-        counts,
-        quality: weigh(counts, w),
-        changed: 0,
-        examined: 0,
-    };
+    let mut run = Progress::begin(counts, w);
     for _pass in 0..c + 1 {
         let next = review_pass(rec, index, seniors, w, run);
         if next.changed == run.changed {

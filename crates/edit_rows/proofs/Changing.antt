@@ -153,17 +153,17 @@ changed R x y ws index seniors first second seniors' third ef uppers lowers st r
 -- ---- the two changes
 
 module _ (st : State) (ws : List ℕ) (index : Index) (seniors after seniors' : List ℕ) (ready : Ready st ws index seniors) (k : ℕ) (small : k < 128) where
-  pub taken_at_lem : (r R s x t z y : ℕ) → r ≡ set_at 2 ws 4 → R ≡ r ∖ single k → x ≡ (when ltb k 128 then s ∪ single k else s)
-      → z ≡ (when eqb (set_at 2 ws (members_start + 2 * k)) 0 then 0 else t) → y ≡ (when ltb k 128 then z ∪ single k else z)
+  pub taken_at_lem : (r R s x us t z y : ℕ) → r ≡ set_at 2 ws 4 → R ≡ r ∖ single k → x ≡ (when ltb k 128 then s ∪ single k else s)
+      → us ≡ set_at 2 ws (members_start + 2 * k) → z ≡ (when eqb us 0 then 0 else t) → y ≡ (when ltb k 128 then z ∪ single k else z)
       → Changed ws index seniors after seniors' R x y → So (has st.standing k) → Neighbours (roles_of st) st.standing k s t
       → Ready (standing_now st (st.standing ∖ single k)) after index seniors'
-  taken_at_lem r R s x t z y er e_r ex ez ey change stands near =
+  taken_at_lem r R s x us t z y er e_r ex eu ez ey change stands near =
       let ρ = roles_of st in
       let Q = st.standing in
       let lim = ready.limits in
       let e = ready.afresh in
       let new : R ≡ Q ∖ single k = e_r ∙ ap (λ (z : ℕ). z ∖ single k) (er ∙ standing_read st lim ws e) in
-      let d = differ_struck ρ Q k (limits_ordered st lim) stands s x t z y small near.seniors ex near.juniors (rw (members_read st lim ws e k small) at ez) ey in
+      let d = differ_struck ρ Q k (limits_ordered st lim) stands s x t z y small near.seniors ex near.juniors (rw (eu ∙ members_read st lim ws e k small) at ez) ey in
       rw new at (change st ready (rw new (∖-lt (candidate_count ρ) Q (single k) lim.standing_below)) (rw new d))
 
   pub put_at_lem : (r R s x t y : ℕ) → r ≡ set_at 2 ws 4 → R ≡ (when ltb k 128 then r ∪ single k else r)
@@ -188,8 +188,6 @@ module _ (st : State) (lim : Limits st) (ws : List ℕ) (index : Index) (e : ws 
       let c = candidate_count (roles_of st) in
       rw (put_standing_lem st lim ws e k small r R er e_r) (∪-lt c st.standing (single k) lim.standing_below (single_lt c k lk))
 
-  -- whatever is found of the standing set with k, seniors or juniors
-  pub put_found : (s : ℕ) (f : Roles → ℕ → ℕ → ℕ) → ((ρ : Roles) → Numbered ρ → LowerRoles ρ index → R < 2 ^ candidate_count ρ → s ≡ f ρ R k)
-      → s ≡ f (roles_of st) (st.standing ∪ single k) k
-  put_found s f es =
-      es (roles_of st) (numbered st lim) ix.lower_roles put_below ∙ ap (λ (S : ℕ). f (roles_of st) S k) (put_standing_lem st lim ws e k small r R er e_r)
+  pub put_found : (s t : ℕ) → ((ρ : Roles) → Numbered ρ → LowerRoles ρ index → R < 2 ^ candidate_count ρ → Neighbours ρ R k s t)
+      → Neighbours (roles_of st) (st.standing ∪ single k) k s t
+  put_found s t near = rw (put_standing_lem st lim ws e k small r R er e_r) at (near (roles_of st) (numbered st lim) ix.lower_roles put_below)

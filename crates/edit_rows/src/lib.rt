@@ -3,5 +3,7 @@
 #![tactic(auto)]
 
 mod change;
+mod links;
 
-pub use change::{put_back, put_back_at, take_out, take_out_at};
+pub use change::{heirs, put_back, put_back_at, take_out, take_out_at};
+pub use links::Links;

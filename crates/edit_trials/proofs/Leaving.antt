@@ -6,7 +6,6 @@ use mathlib.Core.Logic.{◌↔◌}
 use mathlib.Core.List.{List}
 use Prim.Native.Nat.{ℕ, ◌+◌, ◌*◌, ◌^◌, ◌≤◌, ◌<◌}
 use native.Mathlib.Nat.{lt_of_lt_of_le}
-use native.Mathlib.Omega.{arith}
 use lib.Count.{ones}
 use lib.ListN.{take, drop}
 use Rattle.sets.specs.Truth.{◌and◌}
@@ -25,7 +24,6 @@ use Rattle.model.proofs.Building.{stands_below}
 use Rattle.model.proofs.Record.{immediate_juniors_lt}
 use Rattle.model.proofs.Steps.{limits_ordered}
 use Rattle.tables.specs.Tables.{HoldsSets}
-use Rattle.tables.proofs.Parts.{set_at_part}
 use Rattle.hierarchy.specs.Tables.{less_all, immediate_seniors}
 use Rattle.hierarchy.proofs.Sieving.{less_all_iff}
 use Rattle.indexes.specs.declared.index.Index.{Index}
@@ -33,10 +31,10 @@ use Rattle.indexes.proofs.Sources.{narrow}
 use Rattle.rows.specs.Linked.{Ready}
 use Rattle.rows.proofs.Linking.{seniors_told}
 use Rattle.edit_rows.specs.Neighbours.{Neighbours}
-use Rattle.edit_rows.proofs.Changing.{sets_read, seniors_read, juniors_read, members_read, permissions_read}
+use Rattle.edit_rows.proofs.Changing.{sets_read, juniors_read, members_read, permissions_read}
 use Rattle.quality.specs.declared.counts.Counts.{Counts}
 use Rattle.quality.specs.Numbers.{counts_in, Few}
-use Rattle.edit_trials.specs.Trying.{role_counts, counted_in, others, taken_over, taken_at, Within, Corrected}
+use Rattle.edit_trials.specs.Trying.{role_counts, counted_in, other_seniors, other_juniors, taken_over, taken_at, Within, Corrected}
 use Rattle.edit_trials.proofs.Sums.{over_read}
 use Rattle.edit_trials.proofs.Striking.{permission_taken, link_taken, member_taken}
 use Rattle.edit_trials.proofs.Coming.{taken_from, went, went_within}
@@ -95,21 +93,15 @@ module _ (st : State) (ws : List ℕ) (index : Index) (seniors : List ℕ) (read
   pub own_permissions : set_at 4 ws (permissions_start + 4 * k) ≡ direct_permissions (roles_of st) st.standing k
   own_permissions = permissions_read st ready.limits ws ready.afresh k (small k known)
 
-  pub struck_neighbours : (s t : ℕ) → s ≡ set_at 2 seniors (2 * k) → s < 2 ^ 128 → t ≡ set_at 2 ws (juniors_start + 2 * k) → Neighbours (roles_of st) st.standing k s t
-  struck_neighbours s t es b et =
-      record { seniors = seniors_read st ready.limits ws ready.afresh seniors ready.linked k s (small k known) es b; juniors = et ∙ juniors k (small k known) }
-
   -- ---- the neighbours' other neighbours
 
-  juniors_but : (i : ℕ) → i < candidate_count (roles_of st) → others (take 256 (drop juniors_start ws)) k i ≡ immediate_juniors (roles_of st) st.standing i ∖ single k
-  unfolding others
-  juniors_but i l =
-      let li = small i l in
-      ap (λ (x : ℕ). x ∖ single k) (set_at_part 2 juniors_start 256 ws (2 * i) (omega arith) ∙ juniors i li)
+  juniors_but : (i : ℕ) → i < candidate_count (roles_of st) → other_juniors ws k i ≡ immediate_juniors (roles_of st) st.standing i ∖ single k
+  unfolding other_juniors
+  juniors_but i l = ap (λ (x : ℕ). x ∖ single k) (juniors i (small i l))
 
   seniors_but : (table : List ℕ) (own j : ℕ) → j < candidate_count (roles_of st)
-      → less_all 2 table own (others seniors k j) ≡ less_all 2 table own (immediate_seniors (roles_of st) st.standing j ∖ single k)
-  unfolding others
+      → less_all 2 table own (other_seniors seniors k j) ≡ less_all 2 table own (immediate_seniors (roles_of st) st.standing j ∖ single k)
+  unfolding other_seniors
   seniors_but table own j l =
       let told = seniors_told ρ Q few ready.limits.standing_below ws juniors seniors ready.linked j in
       let near = set_at 2 seniors (2 * j) in
@@ -126,7 +118,7 @@ module _ (st : State) (ws : List ℕ) (index : Index) (seniors : List ℕ) (read
     others_below : immediate_juniors (roles_of st) st.standing i ∖ single k < 2 ^ candidate_count (roles_of st)
     others_below = ∖-lt c (immediate_juniors ρ Q i) (single k) (immediate_juniors_lt ρ Q i)
 
-    permissions_row : less_all 4 (take 512 (drop sets_start ws)) (set_at 4 ws (permissions_start + 4 * k)) (others (take 256 (drop juniors_start ws)) k i)
+    permissions_row : less_all 4 (take 512 (drop sets_start ws)) (set_at 4 ws (permissions_start + 4 * k)) (other_juniors ws k i)
         ≡ direct_permissions (roles_of st) (st.standing ∖ single k) i ∩ permission_set (roles_of st) k
     permissions_row =
         ap₂ (less_all 4 (take 512 (drop sets_start ws))) own_permissions (juniors_but i l)
@@ -134,7 +126,7 @@ module _ (st : State) (ws : List ℕ) (index : Index) (seniors : List ℕ) (read
         few (sets_read st ready.limits ws ready.afresh) others_below
         (λ p t. lt_of_lt_of_le ((permission_iff ρ Q k p).0 t).0 (narrow st ready.limits).few_permissions) (permission_taken ρ Q ordered k stands i h)
 
-    links_row : less_all 2 index.lower (immediate_juniors (roles_of st) st.standing k) (others (take 256 (drop juniors_start ws)) k i)
+    links_row : less_all 2 index.lower (immediate_juniors (roles_of st) st.standing k) (other_juniors ws k i)
         ≡ immediate_juniors (roles_of st) (st.standing ∖ single k) i ∩ immediate_juniors (roles_of st) st.standing k
     links_row =
         ap (less_all 2 index.lower (immediate_juniors ρ Q k)) (juniors_but i l)
@@ -142,10 +134,10 @@ module _ (st : State) (ws : List ℕ) (index : Index) (seniors : List ℕ) (read
         few ready.indexed.lower_roles others_below (λ j t. small j ((junior_iff ρ Q k j).0 t).0) (link_taken ρ Q ordered k stands i h)
 
   members_row : (j : ℕ) → j < candidate_count (roles_of st) → So (immediately_senior (roles_of st) st.standing k j)
-      → less_all 2 index.users (set_at 2 ws (members_start + 2 * k)) (others seniors k j)
+      → less_all 2 index.users (set_at 2 ws (members_start + 2 * k)) (other_seniors seniors k j)
       ≡ direct_members (roles_of st) (st.standing ∖ single k) j ∩ authorised_users (roles_of st) k
   members_row j l h =
-      ap (λ (x : ℕ). less_all 2 index.users x (others seniors k j)) own_members ∙ seniors_but index.users (direct_members ρ Q k) j l
+      ap (λ (x : ℕ). less_all 2 index.users x (other_seniors seniors k j)) own_members ∙ seniors_but index.users (direct_members ρ Q k) j l
       ∙ left_over 2 c index.users (authorised_users ρ) (direct_members ρ Q k) (immediate_seniors ρ Q j ∖ single k) (direct_members ρ (Q ∖ single k) j ∩ authorised_users ρ k)
       few ready.indexed.role_users (∖-lt c (immediate_seniors ρ Q j) (single k) (collect_lt c (λ i. has (immediate_juniors ρ Q i) j)))
       (λ u t. lt_of_lt_of_le ((member_iff ρ Q k u).0 t).0 (narrow st ready.limits).few_users) (member_taken ρ Q ordered k stands j h)
@@ -164,7 +156,7 @@ module _ (st : State) (ws : List ℕ) (index : Index) (seniors : List ℕ) (read
         let permissions = over_read c s (immediate_seniors ρ Q k) _ (λ i. ones (direct_permissions ρ (Q ∖ single k) i ∩ permission_set ρ k)) few near.seniors seniors-below
         (λ i l x. ap ones (permissions_row i l (seniors-in i x))) in
         let links = over_read c s (immediate_seniors ρ Q k) _ (λ i. ones (immediate_juniors ρ (Q ∖ single k) i ∩ immediate_juniors ρ Q k)) few near.seniors seniors-below
-        (λ i l x. ap (λ (y : ℕ). ones (less_all 2 index.lower y (others (take 256 (drop juniors_start ws)) k i))) near.juniors ∙ ap ones (links_row i l (seniors-in i x))) in
+        (λ i l x. ap (λ (y : ℕ). ones (less_all 2 index.lower y (other_juniors ws k i))) near.juniors ∙ ap ones (links_row i l (seniors-in i x))) in
         λ i. record { roles = 0; members = members i; permissions = permissions i; links = links i }
 
     module _ (q b a : Counts) (us ps : ℕ) (eq : counts_in q ≡ model.counts (roles_of st) st.standing) (eu : us ≡ set_at 2 ws (members_start + 2 * k))

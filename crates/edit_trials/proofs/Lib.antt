@@ -1,5 +1,6 @@
 pub mod Striking
 pub mod Sums
+pub mod Adding
 pub mod Counting
 pub mod Coming
 pub mod Leaving

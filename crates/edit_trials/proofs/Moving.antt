@@ -1,9 +1,9 @@
 -- A restoration that is not written: the counts with k, from what the record holds without it.
 -- Assumes nothing.
-use mathlib.Core.Path.{◌≡◌, refl, sym, ◌∙◌, ap, ap₂}
+use mathlib.Core.Path.{◌≡◌, sym, ◌∙◌, ap, ap₂}
 use mathlib.Core.List.{List}
-use Prim.Native.Nat.{ℕ, suc, ◌+◌, ◌*◌, ◌^◌, ◌≤◌, ◌<◌}
-use native.Mathlib.Nat.{mul-suc, mul-le-mul_left, lt_of_lt_of_le}
+use Prim.Native.Nat.{ℕ, ◌+◌, ◌*◌, ◌^◌, ◌<◌}
+use native.Mathlib.Nat.{lt_of_lt_of_le}
 use native.Mathlib.Omega.{arith}
 use lib.Count.{ones}
 use lib.Dec.{ltb}
@@ -14,7 +14,7 @@ use Rattle.sets.proofs.Order.{∪-lt, single_lt, collect_lt, has_with, with_with
 use Rattle.model.specs.Lists.{set_at}
 use Rattle.model.specs.Hierarchy.{Roles, candidate_count, permission_set, authorised_users, immediate_juniors, direct_permissions, direct_members}
 use Rattle.model.specs.Quality as model
-use Rattle.model.specs.Record.{sets_start, permissions_start, members_start, juniors_start}
+use Rattle.model.specs.Record.{sets_start}
 use Rattle.model.specs.State.{State, roles_of}
 use Rattle.model.proofs.Changes.{restored_ordered}
 use Rattle.model.proofs.Record.{immediate_juniors_lt}
@@ -56,11 +56,8 @@ module _ (st : State) (ws : List ℕ) (index : Index) (k : ℕ) (given : Restora
   -- ---- what the rows lose
 
   -- one kind of entry: the row of i in the record, and what it shares with k
-  row : (w start n i : ℕ) (f : ℕ → ℕ → ℕ) (own own' : ℕ) → n ≡ w * 128 → i < 128 → set_at w ws (start + w * i) ≡ f st.standing i → own ≡ own'
-      → ones (set_at w (take n (drop start ws)) (w * i) ∩ own) ≡ ones (f ((st.standing ∪ single k) ∖ single k) i ∩ own')
-  row w start n i f own own' size li held eo =
-      let next : w * suc i ≤ w * 128 = mul-le-mul_left w li in
-      ap₂ (λ (x y : ℕ). ones (x ∩ y)) (set_at_part w start n ws (w * i) (omega (arith, mul-suc w i)) ∙ held ∙ ap (λ (x : ℕ). f x i) (sym back)) eo
+  row : (i x : ℕ) (f : ℕ → ℕ → ℕ) (own own' : ℕ) → x ≡ f st.standing i → own ≡ own' → ones (x ∩ own) ≡ ones (f ((st.standing ∪ single k) ∖ single k) i ∩ own')
+  row i x f own own' held eo = ap₂ (λ (x y : ℕ). ones (x ∩ y)) (held ∙ ap (λ (x : ℕ). f x i) (sym back)) eo
 
   own_read : set_at 4 ws (sets_start + 4 * k) ≡ permission_set (roles_of st) k
   own_read = let li = small k given.candidate in sym (set_at_part 4 sets_start 512 ws (4 * k) (omega arith)) ∙ sets_read st given.limits ws given.afresh k given.candidate
@@ -72,11 +69,11 @@ module _ (st : State) (ws : List ℕ) (index : Index) (k : ℕ) (given : Restora
         let few = given.limits.candidates_most in
         let seniors-below = collect_lt c (λ i. has (immediate_juniors ρ S i) k) in
         let members = over_read c t (immediate_juniors ρ S k) _ (λ j. ones (direct_members ρ (S ∖ single k) j ∩ authorised_users ρ k)) few near.juniors (immediate_juniors_lt ρ S k)
-        (λ j l x. row 2 members_start 256 j (direct_members ρ) _ _ refl (small j l) (members_read st given.limits ws given.afresh j (small j l)) (given.indexed.role_users k given.candidate)) in
+        (λ j l x. row j _ (direct_members ρ) _ _ (members_read st given.limits ws given.afresh j (small j l)) (given.indexed.role_users k given.candidate)) in
         let permissions = over_read c s (immediate_seniors ρ S k) _ (λ i. ones (direct_permissions ρ (S ∖ single k) i ∩ permission_set ρ k)) few near.seniors seniors-below
-        (λ i l x. row 4 permissions_start 512 i (direct_permissions ρ) _ _ refl (small i l) (permissions_read st given.limits ws given.afresh i (small i l)) own_read) in
+        (λ i l x. row i _ (direct_permissions ρ) _ _ (permissions_read st given.limits ws given.afresh i (small i l)) own_read) in
         let links = over_read c s (immediate_seniors ρ S k) _ (λ i. ones (immediate_juniors ρ (S ∖ single k) i ∩ immediate_juniors ρ S k)) few near.seniors seniors-below
-        (λ i l x. row 2 juniors_start 256 i (immediate_juniors ρ) _ _ refl (small i l) (juniors_read st given.limits ws given.afresh i (small i l)) near.juniors) in
+        (λ i l x. row i _ (immediate_juniors ρ) _ _ (juniors_read st given.limits ws given.afresh i (small i l)) near.juniors) in
         λ i. record { roles = 0; members = members i; permissions = permissions i; links = links i }
 
     module _ (q a : Counts) (eq : counts_in q ≡ model.counts (roles_of st) st.standing) (ea : counts_in a ≡ lost_at ws index k s t) where
@@ -96,12 +93,9 @@ module _ (st : State) (ws : List ℕ) (index : Index) (k : ℕ) (given : Restora
     same : R ≡ st.standing ∪ single k
     same = put_standing_lem st given.limits ws given.afresh k (small k given.candidate) r R er e_r
 
-    pub tried_neighbours : (s t : ℕ) → ((ρ : Roles) → Numbered ρ → LowerRoles ρ index → R < 2 ^ candidate_count ρ → s ≡ immediate_seniors ρ R k)
-        → ((ρ : Roles) → Numbered ρ → LowerRoles ρ index → R < 2 ^ candidate_count ρ → t ≡ immediate_juniors ρ R k)
+    pub tried_neighbours : (s t : ℕ) → ((ρ : Roles) → Numbered ρ → LowerRoles ρ index → R < 2 ^ candidate_count ρ → Neighbours ρ R k s t)
         → Neighbours (roles_of st) (st.standing ∪ single k) k s t
-    tried_neighbours s t hs ht =
-        let found = put_found st given.limits ws index given.afresh given.indexed k (small k given.candidate) r R er e_r given.candidate in
-        record { seniors = found s immediate_seniors hs; juniors = found t immediate_juniors ht }
+    tried_neighbours = put_found st given.limits ws index given.afresh given.indexed k (small k given.candidate) r R er e_r given.candidate
 
     pub tried_gained : (s t : ℕ) → Neighbours (roles_of st) (st.standing ∪ single k) k s t → (b : Counts)
         → ((ρ : Roles) → Numbered ρ → Narrow ρ → HoldsSets 4 (candidate_count ρ) (permission_set ρ) (take 512 (drop sets_start ws)) → RoleUsers ρ index → R < 2 ^ candidate_count ρ → Neighbours ρ R k s t → counts_in b ≡ counted_in ρ R k)

@@ -3,7 +3,7 @@
 use mathlib.Core.Path.{◌≡◌, refl, sym, ◌∙◌, ap}
 use mathlib.Core.Bool.{Bool, false, So}
 use mathlib.Core.Logic.{◌≢◌}
-use Prim.Native.Nat.{ℕ, zero, suc, ◌+◌, ◌^◌, ◌≤◌, ◌<◌}
+use Prim.Native.Nat.{ℕ, zero, suc, ◌+◌, ◌*◌, ◌^◌, ◌≤◌, ◌<◌}
 use native.Mathlib.Omega.{arith}
 use lib.Count.{ones}
 use Rattle.sets.specs.Truth.{total, when◌then◌else◌}
@@ -11,7 +11,7 @@ use Rattle.sets.specs.Sets.{has, ◌∖◌, single}
 use Rattle.sets.proofs.Truth.{by_test, same_test, So-not, not-So, either, equal_or, total_same, when-true, when-false}
 use Rattle.sets.proofs.Members.{has-zero, has_above, item_below, item_of, empty_of}
 use Rattle.sets.proofs.Order.{∖-iff, ∖-lt, single_iff}
-use Rattle.sets.proofs.Counts.{total-suc, total_add, total-≤, total-zero, total_except, ones_none, ones-zero, ones_without}
+use Rattle.sets.proofs.Counts.{total-suc, total_add, total_bound, total-≤, total-zero, total_except, ones_none, ones-zero, ones_without}
 use Rattle.edit_trials.specs.Trying.{over}
 
 pub over_none : (n s : ℕ) (f : ℕ → ℕ) → s ≡ 0 → over n s f ≡ 0
@@ -61,6 +61,12 @@ over_same n s f g same = over-inside n s f g (λ i l h. same i l)
 -- a sum of the code, over sets below 128, told by one over the n roles
 pub over_read : (n s s' : ℕ) (f g : ℕ → ℕ) → n ≤ 128 → s ≡ s' → s' < 2 ^ n → ((i : ℕ) → i < n → So (has s' i) → f i ≡ g i) → over 128 s f ≡ over n s' g
 over_read n s s' f g few e b same = ap (λ (x : ℕ). over 128 x f) e ∙ over_wide 128 n s' f few b ∙ over-inside n s' f g same
+
+pub over_most : (b s : ℕ) (f : ℕ → ℕ) → ((i : ℕ) → f i ≤ b) → over 128 s f ≤ b * 128
+unfolding over
+over_most b s f h =
+    let t = total_bound 128 b (λ i. when has s i then f i else 0) (λ i l. by_test (has s i) (λ t. rw (when-true (has s i) (f i) 0 t) (h i)) (λ t. rw (when-false (has s i) (f i) 0 t) (omega arith))) in
+    omega arith
 
 -- ---- one entry comes in, and those of s lose to it
 

@@ -20,7 +20,7 @@ use Rattle.quality.specs.declared.counts.Counts.{Counts}
 use Rattle.quality.specs.Numbers.{counts_in}
 use Rattle.edit_trials.specs.declared.progress.Progress.{Progress}
 use Rattle.edit_trials.specs.declared.trial.Trial.{Trial}
-use Rattle.tables.specs.Tables.{table128_length, table256_length}
+use Rattle.tables.specs.Tables.{table256_length}
 
 -- ---- sums over some of the roles
 
@@ -28,17 +28,20 @@ use Rattle.tables.specs.Tables.{table128_length, table256_length}
 unfoldable pub over : ℕ → ℕ → (ℕ → ℕ) → ℕ
 over n s f = total n (λ i. when has s i then f i else 0)
 
--- how many items the sets of the roles s share with `own`, in a table with w words to a set
-unfoldable pub shared : ℕ → List ℕ → ℕ → ℕ → ℕ
-shared w table own s = over 128 s (λ i. ones (set_at w table (w * i) ∩ own))
+-- how many items the sets of the roles s share with `own`, where w words to a set stand from place `start` on
+unfoldable pub shared : ℕ → List ℕ → ℕ → ℕ → ℕ → ℕ
+shared w ws start own s = over 128 s (λ i. ones (set_at w ws (start + w * i) ∩ own))
 
--- the neighbours of role i in a table of neighbours, but k
-unfoldable pub others : List ℕ → ℕ → ℕ → ℕ
-others near k i = set_at 2 near (2 * i) ∖ single k
+-- the immediate seniors of role i but k, by the table of them; and its immediate juniors but k, by the record
+unfoldable pub other_seniors : List ℕ → ℕ → ℕ → ℕ
+other_seniors seniors k i = set_at 2 seniors (2 * i) ∖ single k
 
--- how many items of `own` the roles s would take over, each those that none of its neighbours but k has in the table
-unfoldable pub taken_over : ℕ → List ℕ → ℕ → List ℕ → ℕ → ℕ → ℕ
-taken_over w table own near k s = over 128 s (λ i. ones (less_all w table own (others near k i)))
+unfoldable pub other_juniors : List ℕ → ℕ → ℕ → ℕ
+other_juniors ws k i = set_at 2 ws (juniors_start + 2 * i) ∖ single k
+
+-- how many items of `own` the roles s would take over, each those that none of its other neighbours has in the table
+unfoldable pub taken_over : ℕ → List ℕ → ℕ → (ℕ → ℕ) → ℕ → ℕ
+taken_over w table own others s = over 128 s (λ i. ones (less_all w table own (others i)))
 
 -- ---- counts
 
@@ -55,9 +58,9 @@ unfoldable pub lost_at : List ℕ → Index → ℕ → ℕ → ℕ → model.Co
 lost_at ws index k s t =
     record {
       roles = 0;
-      members = shared 2 (take table128_length (drop members_start ws)) (set_at 2 index.users (2 * k)) t;
-      permissions = shared 4 (take table256_length (drop permissions_start ws)) (set_at 4 ws (sets_start + 4 * k)) s;
-      links = shared 2 (take table128_length (drop juniors_start ws)) t s;
+      members = shared 2 ws members_start (set_at 2 index.users (2 * k)) t;
+      permissions = shared 4 ws permissions_start (set_at 4 ws (sets_start + 4 * k)) s;
+      links = shared 2 ws juniors_start t s;
     }
 
 -- what they would take over if role k were struck
@@ -65,9 +68,9 @@ unfoldable pub taken_at : List ℕ → Index → List ℕ → ℕ → ℕ → �
 taken_at ws index seniors k s t =
     record {
       roles = 0;
-      members = taken_over 2 index.users (set_at 2 ws (members_start + 2 * k)) seniors k t;
-      permissions = taken_over 4 (take table256_length (drop sets_start ws)) (set_at 4 ws (permissions_start + 4 * k)) (take table128_length (drop juniors_start ws)) k s;
-      links = taken_over 2 index.lower t (take table128_length (drop juniors_start ws)) k s;
+      members = taken_over 2 index.users (set_at 2 ws (members_start + 2 * k)) (other_seniors seniors k) t;
+      permissions = taken_over 4 (take table256_length (drop sets_start ws)) (set_at 4 ws (permissions_start + 4 * k)) (other_juniors ws k) s;
+      links = taken_over 2 index.lower t (other_juniors ws k) s;
     }
 
 -- none of the first counts is above the second
@@ -99,7 +102,7 @@ pub record Restorable (st : State) (ws : List ℕ) (index : Index) (k : ℕ) : T
 -- a trial of role k: the counts of the building of `after`, and its neighbours in the building of `with`, in which it stands
 pub record Tried (ρ : Roles) (with after k : ℕ) (r : Trial) : Type 0 where
   pub counts : counts_in r.counts ≡ model.counts ρ after
-  pub neighbours : Neighbours ρ with k (set_of r.above) (set_of r.below)
+  pub neighbours : Neighbours ρ with k (set_of r.links.above) (set_of r.links.below)
 
 -- ---- a run
 

@@ -4,20 +4,21 @@ ghost use Rattle.sets.specs.Held.{set_of};
 ghost use Rattle.quality.specs.Numbers.{counts_in, Few};
 ghost use Rattle.edit_trials.specs.Trying.{role_counts, Within, Corrected};
 
+use edit_rows::Links;
 use quality::Counts;
 use sets::{Set128, Set256};
 
 // A role with this row: itself, its direct members and permissions, and a link to each junior and from each senior.
-pub fn role_counts(members: Set128, permissions: Set256, above: Set128, below: Set128) -> Counts
+pub fn role_counts(members: Set128, permissions: Set256, links: Links) -> Counts
     ensures few { Few result }
-    ensures result_value { counts_in result ≡ role_counts (set_of members) (set_of permissions) (set_of above) (set_of below) }
+    ensures result_value { counts_in result ≡ role_counts (set_of members) (set_of permissions) (set_of links.above) (set_of links.below) }
 {
-    let links = below.count() + above.count();
+    let neighbours = links.below.count() + links.above.count();
     Counts {
         roles: 1,
         members: members.count() as u64,
         permissions: permissions.count() as u64,
-        links: links as u64,
+        links: neighbours as u64,
     }
 }
 

@@ -1,38 +1,36 @@
 // What the neighbours of a role would lose to it if it came back: what is direct with them today, and would be direct with it.
-ghost use Rattle.std.specs.Prelude.{◌≡◌, ◌*◌, ◌≤◌, ◌<◌, length};
+ghost use Rattle.std.specs.Prelude.{◌≡◌, ◌<◌};
 ghost use Rattle.sets.specs.Held.{set_of};
 ghost use Rattle.quality.specs.Numbers.{counts_in};
-ghost use Rattle.edit_trials.specs.Trying.{shared, lost_at};
+ghost use Rattle.edit_trials.specs.Trying.{lost_at};
 
+use edit_rows::Links;
 use indexes::Index;
 use quality::Counts;
-use sets::{Set, Set128, Set256};
-use tables::{JUNIORS, LENGTH, MEMBERS, PERMISSIONS, Record, SETS, load};
-
-// How many items the sets of these roles share with `own`.
-fn shared<const WORDS: usize>(table: &[u64], own: &Set<WORDS>, roles: Set128) -> usize
-    requires width { WORDS ≤ 4 }
-    requires table_len { length table.now ≡ 128 * WORDS }
-    ensures upper_bound { result ≤ 64 * WORDS * 128 }
-    ensures value { result ≡ shared WORDS table.now (set_of own.now) (set_of roles) }
-{
-    let mut sum = 0;
-    for i in roles.items() {
-        sum += load(table, WORDS * i).intersection(*own).count();
-    }
-    sum
-}
+use tables::{JUNIORS, MEMBERS, PERMISSIONS, Record, SETS, load};
 
 // What the neighbours of k would lose to it: its juniors direct members, its seniors direct permissions and links.
-pub fn lost(rec: &Record, index: &Index, k: usize, above: Set128, below: Set128) -> Counts
+pub fn lost(rec: &Record, index: &Index, k: usize, links: Links) -> Counts
     requires k_bound { k < 128 }
-    ensures { counts_in result ≡ lost_at rec.now index.now k (set_of above) (set_of below) }
+    ensures { counts_in result ≡ lost_at rec.now index.now k (set_of links.above) (set_of links.below) }
 {
-    let users: Set128 = load(&index.users, 2 * k);
-    let own: Set256 = load(rec, SETS + 4 * k);
-    let members = shared(&rec[MEMBERS..JUNIORS], &users, below);
-    let permissions = shared(&rec[PERMISSIONS..MEMBERS], &own, above);
-    let links = shared(&rec[JUNIORS..LENGTH], &below, above);
+    let Links { above, below } = links;
+    let users = load(&index.users, 2 * k);
+    let own = load(rec, SETS + 4 * k);
+    let members = below
+        .items()
+        .map(|j| load::<2>(rec, MEMBERS + 2 * j).intersection(users).count())
+        .sum::<usize>();
+    let permissions = above
+        .items()
+        .map(|i| load::<4>(rec, PERMISSIONS + 4 * i)
+            .intersection(own)
+            .count())
+        .sum::<usize>();
+    let links = above
+        .items()
+        .map(|i| load::<2>(rec, JUNIORS + 2 * i).intersection(below).count())
+        .sum::<usize>();
     Counts {
         roles: 0,
         members: members as u64,

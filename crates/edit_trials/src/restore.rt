@@ -15,28 +15,22 @@ ghost use Rattle.edit_trials.specs.Trying.{counted_in, Exact, Restorable, Tried}
 use crate::count::{corrected, role_counts};
 use crate::lost::lost;
 use crate::trial::Trial;
-use hierarchy::{juniors_of, members_of, permissions_of, seniors_of};
+use edit_rows::Links;
+use hierarchy::{members_of, permissions_of};
 use indexes::Index;
 use quality::Counts;
 use sets::Set128;
-use tables::{PERMISSIONS, Record, SETS, STANDING, load};
+use tables::{Record, STANDING, candidate_sets, load};
 
 // What k would bring: its row, and a link from each senior.
-fn gained(
-    rec: &Record,
-    index: &Index,
-    standing: Set128,
-    k: usize,
-    above: Set128,
-    below: Set128,
-) -> Counts
+fn gained(rec: &Record, index: &Index, standing: Set128, k: usize, links: Links) -> Counts
     requires k_bound { k < 128 }
     ensures few { Few result }
-    ensures result_value { (ρ : Roles) → Numbered ρ → Narrow ρ → HoldsSets 4 (candidate_count ρ) (permission_set ρ) (take table256_length (drop sets_start rec.now)) → RoleUsers ρ index.now → set_of standing < 2 ^ candidate_count ρ → Neighbours ρ (set_of standing) k (set_of above) (set_of below) → counts_in result ≡ counted_in ρ (set_of standing) k }
+    ensures result_value { (ρ : Roles) → Numbered ρ → Narrow ρ → HoldsSets 4 (candidate_count ρ) (permission_set ρ) (take table256_length (drop sets_start rec.now)) → RoleUsers ρ index.now → set_of standing < 2 ^ candidate_count ρ → Neighbours ρ (set_of standing) k (set_of links.above) (set_of links.below) → counts_in result ≡ counted_in ρ (set_of standing) k }
 {
-    let members = members_of(&index.users, above, standing, k);
-    let permissions = permissions_of(&rec[SETS..PERMISSIONS], below, standing, k);
-    role_counts(members, permissions, above, below)
+    let members = members_of(&index.users, links.above, standing, k);
+    let permissions = permissions_of(candidate_sets(rec), links.below, standing, k);
+    role_counts(members, permissions, links)
 }
 
 // What putting the absent candidate k back would do to the counts q. Only the rows of its neighbours lose anything, and only to k.
@@ -47,13 +41,11 @@ pub fn if_restored(rec: &Record, index: &Index, q: Counts, k: usize) -> Trial
     ensures { Tried (roles_of (state_of rec.now)) ((state_of rec.now).standing ∪ single k) ((state_of rec.now).standing ∪ single k) k result }
 {
     let standing = load(rec, STANDING).insert(k);
-    let above = seniors_of(&index.lower, standing, k);
-    let below = juniors_of(&index.lower, standing, k);
-    let given = lost(rec, index, k, above, below);
-    let brought = gained(rec, index, standing, k, above, below);
+    let links = Links::among(index, standing, k);
+    let given = lost(rec, index, k, links);
+    let brought = gained(rec, index, standing, k, links);
     Trial {
         counts: corrected(q, given, brought),
-        above,
-        below,
+        links,
     }
 }

@@ -10,9 +10,10 @@ ghost use Rattle.edit_trials.specs.Trying.{Exact, Tried};
 use crate::count::{corrected, role_counts};
 use crate::taken::taken;
 use crate::trial::Trial;
+use edit_rows::Links;
 use indexes::Index;
 use quality::Counts;
-use tables::{JUNIORS, MEMBERS, PERMISSIONS, Record, Table128, load};
+use tables::{MEMBERS, PERMISSIONS, Record, Table128, load};
 
 // What taking the standing role k out would do to the counts q. Its row goes, and its neighbours take over what no other neighbour of theirs has.
 pub fn if_struck(rec: &Record, index: &Index, seniors: &Table128, q: Counts, k: usize) -> Trial
@@ -22,15 +23,13 @@ pub fn if_struck(rec: &Record, index: &Index, seniors: &Table128, q: Counts, k: 
     requires k_bound { k < 128 }
     ensures { Tried (roles_of (state_of rec.now)) (state_of rec.now).standing ((state_of rec.now).standing ∖ single k) k result }
 {
-    let above = load(seniors, 2 * k);
-    let below = load(rec, JUNIORS + 2 * k);
+    let links = Links::read(rec, seniors, k);
     let members = load(rec, MEMBERS + 2 * k);
     let permissions = load(rec, PERMISSIONS + 4 * k);
-    let had = role_counts(members, permissions, above, below);
-    let given = taken(rec, index, seniors, k, above, below);
+    let had = role_counts(members, permissions, links);
+    let given = taken(rec, index, seniors, k, links);
     Trial {
         counts: corrected(q, had, given),
-        above,
-        below,
+        links,
     }
 }

@@ -1,10 +1,9 @@
+use edit_rows::Links;
 use quality::Counts;
-use sets::Set128;
 
-// The counts that the record would have with a role taken out or put back, and the role's immediate seniors and juniors where it stands.
+// The counts that the record would have with a role taken out or put back, and the role's links where it stands.
 #[derive(Clone, Copy)]
 pub struct Trial {
     pub counts: Counts,
-    pub above: Set128,
-    pub below: Set128,
+    pub links: Links,
 }

@@ -60,12 +60,7 @@ pub fn take_up(
     let worklist = turn.worklist;
     let before = at.counts;
     let examined = at.examined + 1;
-    let unstruck = Progress {
-        counts: before,
-        quality: at.quality,
-        changed: at.changed,
-        examined,
-    };
+    let unstruck = Progress { examined, ..at };
     if !removable(rec, index, k) {
         return Turn {
             progress: unstruck,
@@ -81,7 +76,7 @@ pub fn take_up(
             worklist,
         };
     }
-    take_out_at(rec, index, seniors, k, trial.above, trial.below);
+    take_out_at(rec, index, seniors, k, trial.links);
     Turn {
         progress: Progress {
             counts,

@@ -33,9 +33,9 @@ pub fn fill_order(index: &Index, m: usize, c: usize, work: &mut Work)
     ensures { (ρ : Roles) → candidate_count ρ ≡ c → ρ.permissions ≡ m → Numbered ρ → Indexed ρ index.now → AllHolders ρ index.now → Prepared ρ work.new }
 {
     fill_down(&index.lower, c, &mut work.down);
-    fill_columns(&work.down, c, c, &mut work.up);
+    fill_columns::<2>(&work.down, c, c, &mut work.up);
     let count = find_samples(index, c, &mut work.samples);
-    fill_columns(&work.samples, count, c, &mut work.holding);
+    fill_columns::<2>(&work.samples, count, c, &mut work.holding);
     fill_further(work, count);
     work.first = first_holders(&index.holders, m);
 }

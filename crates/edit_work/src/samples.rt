@@ -12,6 +12,9 @@ use indexes::Index;
 use sets::Set128;
 use tables::{Table128, load, store};
 
+// The table is lent, and the count handed on, by itself: the count serves only while the work is filled, and a struct of the two in `Work` would keep a
+// number that no redundancy reads.
+
 // Puts the roles s of one more user after the first `count` sets of the table, unless the last of them is the same. Answers how many there are then.
 fn add_sample(table: &mut Table128, count: usize, s: Set128) -> usize
     requires { count < 128 }

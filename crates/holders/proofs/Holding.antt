@@ -6,8 +6,6 @@ use mathlib.Core.List.{List}
 use Prim.Native.Nat.{ℕ, ◌*◌}
 use lib.ListN.{get_or, take, drop}
 use Rattle.sets.specs.Sets.{has, collect}
-use Rattle.sets.proofs.Truth.{So-not}
-use Rattle.sets.proofs.Members.{has-zero}
 use Rattle.sets.proofs.Order.{collect_same}
 use Rattle.model.specs.Lists.{set_at}
 use Rattle.model.specs.Hierarchy.{Roles, candidate_count, permission_set}
@@ -16,14 +14,9 @@ use Rattle.model.specs.Record.{sets_start, built, Limits}
 use Rattle.model.specs.State.{State, roles_of}
 use Rattle.model.proofs.Record.{read_count}
 use Rattle.tables.specs.Tables.{HoldsSets}
-use Rattle.tables.proofs.Tables.{HeldBut}
 use Rattle.hierarchy.proofs.Reading.{read_sets}
 use Rattle.indexes.proofs.Sources.{narrow}
-use Rattle.holders.specs.Holding.{HoldsFor}
-
--- once none is left to do, each has its entry
-pub held_all : (s rest : ℕ) (f : ℕ → ℕ) (ws : List ℕ) → HeldBut s rest f ws → rest ≡ 0 → HoldsFor s f ws
-held_all s rest f ws inv e p h = inv p h (λ t. So-not (has-zero p) (rw e at t))
+use Rattle.columns.specs.Filling.{HoldsFor}
 
 -- the sets of a record, as a table
 pub sets_read : (st : State) → Limits st → (ws : List ℕ) → ws ≡ built st → HoldsSets 4 (candidate_count (roles_of st)) (permission_set (roles_of st)) (take 512 (drop sets_start ws))

@@ -1,7 +1,7 @@
 // The roles that hold a permission.
 #![tactic(auto)]
 
-ghost use Rattle.std.specs.Prelude.{◌≡◌, ◌*◌, ◌≤◌, length, get_or};
+ghost use Rattle.std.specs.Prelude.{◌≡◌, ◌*◌, ◌≤◌, get_or};
 ghost use Rattle.sets.specs.Held.{set_of};
 ghost use Rattle.sets.specs.Sets.{has, collect};
 ghost use Rattle.model.specs.Lists.{set_at};
@@ -9,12 +9,12 @@ ghost use Rattle.model.specs.Hierarchy.{Roles};
 ghost use Rattle.model.specs.Record.{built, Limits};
 ghost use Rattle.model.specs.State.{State, roles_of};
 ghost use Rattle.indexes.specs.Index.{Indexed, HoldersFor};
-ghost use Rattle.holders.specs.Holding.{HoldsFor};
+ghost use Rattle.columns.specs.Filling.{HoldsFor};
 
-use columns::{column_of, fill_columns_of};
+use columns::{fill_columns, fill_columns_for};
 use indexes::{Holders, Index};
 use sets::Set256;
-use tables::{PERMISSIONS, Record, SETS, store};
+use tables::{Record, Table256, candidate_sets};
 
 // The holders of each of these permissions, in the index. Its other tables are left.
 pub fn fill_holders(rec: &Record, index: &mut Index, permissions: Set256)
@@ -23,29 +23,18 @@ pub fn fill_holders(rec: &Record, index: &mut Index, permissions: Set256)
     ensures indexed { (ρ : Roles) → Indexed ρ index.old → Indexed ρ index.new }
 {
     let c = rec[2] as usize;
-    fill_columns_for(&rec[SETS..PERMISSIONS], c, permissions, &mut index.holders);
+    fill_holders_of(candidate_sets(rec), c, permissions, &mut index.holders);
 }
 
-// The columns of a table of c sets for these items. A strike asks for the role's direct permissions only; where they are many, a transposition that
-// tells all 256 costs less than a column for each.
-fn fill_columns_for(table: &[u64], c: usize, permissions: Set256, out: &mut Holders)
+// Those of a table of c sets. A strike asks for the role's direct permissions only; where they are many, a transposition that tells all 256 costs less
+// than a column for each.
+fn fill_holders_of(sets: &Table256, c: usize, permissions: Set256, out: &mut Holders)
     requires c_bound { c ≤ 128 }
-    requires c_in_bounds { 4 * c ≤ length table.now }
-    ensures { HoldsFor (set_of permissions) (λ p. collect c (λ k. has (set_at 4 table.now (4 * k)) p)) out.new }
+    ensures { HoldsFor (set_of permissions) (λ p. collect c (λ k. has (set_at 4 sets.now (4 * k)) p)) out.new }
 {
     if permissions.count() < 24 {
-        fill_few_columns_for(table, c, permissions, out);
-        return;
-    }
-    fill_columns_of(table, 4, c, 256, out);
-}
-
-fn fill_few_columns_for(table: &[u64], c: usize, permissions: Set256, out: &mut Holders)
-    requires c_bound { c ≤ 128 }
-    requires c_in_bounds { 4 * c ≤ length table.now }
-    ensures { HoldsFor (set_of permissions) (λ p. collect c (λ k. has (set_at 4 table.now (4 * k)) p)) out.new }
-{
-    for p in permissions.items() {
-        store(out, 2 * p, column_of(table, 4, c, p));
+        fill_columns_for::<4>(sets, c, permissions, out);
+    } else {
+        fill_columns::<4>(sets, c, 256, out);
     }
 }

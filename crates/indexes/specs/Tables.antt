@@ -1,6 +1,6 @@
 -- What the index is filled from, and what it holds on the way.
 -- Assumes nothing.
-use Rattle.std.specs.Prelude.{◌≡◌, ◌⊎◌, List, ℕ, ◌*◌, ◌≤◌, ◌<◌, length, get_or, take, drop}
+use Rattle.std.specs.Prelude.{◌≡◌, ◌⊎◌, List, ℕ, ◌*◌, ◌≤◌, ◌<◌, get_or, take, drop}
 use Rattle.std.proofs.Math.Bool.{So}
 use Rattle.sets.specs.Truth.{◌implies◌, all}
 use Rattle.sets.specs.Sets.{has, collect}
@@ -9,12 +9,11 @@ use Rattle.model.specs.Candidates.{candidates, Growing}
 use Rattle.model.specs.Hierarchy.{candidate_count, permission_set}
 use Rattle.model.specs.Indexes.{lower}
 use Rattle.model.specs.State.{State, roles_of}
-use Rattle.model.specs.Record.{Limits, record_length, crew_start, sets_start}
+use Rattle.model.specs.Record.{Limits, crew_start, sets_start}
 use Rattle.tables.specs.Tables.{table256_length}
 
 -- a record whose header keeps the bounds and whose candidates grow
 pub record FillsFrom (ws : List ℕ) : Type 0 where
-  pub size : length ws ≡ record_length
   pub few_users : get_or ws 0 0 ≤ 128
   pub few_candidates : get_or ws 2 0 ≤ 128
   pub grows : Growing (rows_at (get_or ws 2 0) (take table256_length (drop sets_start ws)) 0)
@@ -40,8 +39,3 @@ pub record Owned (st : State) (n : ℕ) (low : List ℕ) (roles users : ℕ) : T
 -- the items that all of the sets us of a table have
 unfoldable pub shared_by : List ℕ → ℕ → ℕ
 shared_by ws us = collect 128 (λ j. all 128 (λ u. has us u implies has (set_at 2 ws (2 * u)) j))
-
--- a table of n words, all zero
-pub record Zeros (n : ℕ) (ws : List ℕ) : Type 0 where
-  pub size : length ws ≡ n
-  pub all_zero : (i : ℕ) → get_or ws i 0 ≡ 0

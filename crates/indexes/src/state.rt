@@ -11,7 +11,7 @@ use crate::index::Index;
 use crate::own::fill_roles;
 use crate::shared::fill_shared;
 use columns::fill_columns;
-use tables::{PERMISSIONS, Record, SETS};
+use tables::{Record, candidate_sets};
 
 // The index of a record that has its header and its candidates, for users with these rows: the rows that give members are handed over, since they need
 // not be those of the record that gives the candidates. It takes a search to a user, at most c subset tests for each row that
@@ -23,8 +23,8 @@ pub fn fill_index(rec: &Record, rows: &[[u64; 4]], index: &mut Index)
     ensures { (st : State) → Source st (rows_of rows.now) (length rows.now) (take table256_length (drop sets_start rec.now)) (get_or rec.now 2 0) → Indexed (roles_of st) index.new }
 {
     let c = rec[2] as usize;
-    let sets = &rec[SETS..PERMISSIONS];
+    let sets = candidate_sets(rec);
     let own = fill_roles(rows, sets, c, &mut index.lower, &mut index.roles);
-    fill_columns(&index.roles, rows.len(), c, &mut index.users);
+    fill_columns::<2>(&index.roles, rows.len(), c, &mut index.users);
     fill_shared(&index.roles, &index.users, own, c, &mut index.lower);
 }

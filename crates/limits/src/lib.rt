@@ -9,7 +9,7 @@ ghost use Rattle.tables.specs.Rows.{rows_of};
 
 use refusals::Refusal;
 use sets::Set256;
-use tables::crew_rows;
+use tables::as_rows;
 
 // Whether the numbers of users and of permissions are from 1 to 128 and from 1 to 256.
 #[tactic(auto, using(crate::proofs::Within::limits))]
@@ -48,7 +48,7 @@ pub fn crew_refusal(n: usize, m: usize, crew: &[u64]) -> Result<(), Refusal>
     if crew.len() != 4 * n {
         return Err(Refusal::Crew);
     }
-    if !rows_within(crew_rows(crew, 0, n), m) {
+    if !rows_within(as_rows(crew, 0, n), m) {
         return Err(Refusal::Crew);
     }
     Ok(())

@@ -1,99 +1,60 @@
--- What the text's answer and mining's answer mean for the listing. Only 2, 3, 4 and 10 are printed as refusals.
+-- What a text's refusal and its mined record mean for the listing. Only 2, 3, 4 and 10 are printed as refusals.
 -- Assumes nothing.
 use mathlib.Core.Path.{◌≡◌, refl, sym, ◌∙◌, ap}
 use mathlib.Core.Bool.{So}
 use mathlib.Core.Logic.{◌⊎◌, ⊎_elim}
 use mathlib.Core.List.{List}
-use Prim.Native.Nat.{ℕ, ◌*◌}
+use Prim.Native.Nat.{ℕ}
 use lib.Dec.{eqb, leb}
-use lib.ListN.{length, take, replicate}
+use lib.ListN.{length, replicate}
 use Rattle.sets.specs.Truth.{isnt, when◌then◌else◌}
 use Rattle.sets.proofs.Truth.{by_test, not-So, So-not, eqb_iff, when-true, when-false}
 use Rattle.model.specs.Lists.{rows_at}
 use Rattle.model.specs.Candidates.{candidates}
-use Rattle.model.specs.State.{State, fresh, within_limits, rows_within}
-use Rattle.model.specs.Record.{record_length, built, state_of, sound}
-use Rattle.model.specs.Calls.{mine}
+use Rattle.model.specs.State.{State, fresh}
+use Rattle.model.specs.Record.{built, state_of, sound}
 use Rattle.model.proofs.Record.{state_back}
 use Rattle.model.proofs.Steps.{Fit, after_fit}
-use Rattle.model.proofs.Claim.{fit_sound}
-use Rattle.text_crew.specs.declared.CrewSize.{CrewSize}
+use Rattle.model.proofs.Claim.{sound_fit, fit_sound}
 use Rattle.text_lines.proofs.Forms.{header_cases}
-use Rattle.text_crew.specs.Reader.{ReadReply, Read, read_result, read_refused, after_rows, after_header, rows_to, read_crew, laid, buffer_length, longest_text}
+use Rattle.text_crew.specs.Reader.{ReadReply, Read, read_refused, after_rows, after_header, rows_to, read_crew, laid, buffer_length, longest_text}
 use Rattle.text_lines.specs.Lines.{header_at}
 use Rattle.text_crew.specs.Reader.Read.{rows_read, bad_form, bad_bit}
-use Rattle.text_crew.proofs.Taken.{taken_rows, code_read}
-use Rattle.std.specs.Prelude.{Ok, Err}
 use Rattle.refusals.specs.declared.Refusal.{Refusal}
 use Rattle.refusals.specs.Numbers.{number_of}
 use Rattle.refusals.proofs.Numbers.{some_number}
-use Rattle.call_mine.specs.Results.{mine_result}
-use Rattle.call_mine.proofs.Counted.{mined_many, mined_few, mined_fit, mined_state}
+use Rattle.text_mine.specs.Mined.{text_refusal, text_state}
+use Rattle.text_mine.proofs.Mined.{by_refusal}
 use Rattle.listing.specs.Listing.{Printable, settled, roles_text, listed, listing}
 use Rattle.text_roles.specs.Lines.{refused_text}
 
--- ---- mining a crew list that was read
-
-module _ (n m : ℕ) (crew ws : List ℕ) (full : length ws ≡ record_length) (ok : So (within_limits n m)) (size : length crew ≡ 4 * n)
-    (inside : So (rows_within m (rows_at n crew 0))) where
-  abbrev rows : List ℕ
-  rows = rows_at n crew 0
-
-  -- refused: that is 4
-  pub crew_refused : (r : Refusal) (ws' : List ℕ) → mine_result (Err r) ws' ≡ mine n m crew ws → refused_text (number_of r) ≡ listed n m rows
-  unfolding listed
-  crew_refused r ws' p =
-      let many = mined_many n m crew ws full ok size inside r ws' p in
-      ap refused_text many.0 ∙ sym (when-false (leb (length (candidates rows)) 128) (roles_text (settled (fresh n m rows))) (refused_text 4) many.1)
-
-  module _ (c : ℕ) (ws' : List ℕ) (p : mine_result (Ok c) ws' ≡ mine n m crew ws) where
-    crew_fit : Fit (fresh n m rows)
-    crew_fit = mined_fit n m crew ws full ok size inside c ws' p
-
-    crew_listed : roles_text (settled (fresh n m rows)) ≡ listed n m rows
-    unfolding listed
-    crew_listed =
-        sym (when-true (leb (length (candidates rows)) 128) (roles_text (settled (fresh n m rows))) (refused_text 4) (mined_few n m crew ws full ok size inside c ws' p))
-
-    -- eliminated and reviewed: the record holds the settled state
-    module _ (ws2 : List ℕ) (e : ws2 ≡ built (settled (state_of ws'))) where
-      settled_fit : Fit (settled (fresh n m rows))
-      unfolding settled
-      settled_fit = after_fit (fresh n m rows) _ crew_fit
-
-      settled_words : ws2 ≡ built (settled (fresh n m rows))
-      settled_words = e ∙ ap (λ (st : State). built (settled st)) (mined_state n m crew ws full ok size inside c ws' p)
-
-      pub settled_sound : So (sound ws2)
-      settled_sound = rw settled_words (fit_sound (settled (fresh n m rows)) settled_fit)
-
-      pub settled_listed : roles_text (state_of ws2) ≡ listed n m rows
-      settled_listed =
-          ap (λ (x : List ℕ). roles_text (state_of x)) settled_words ∙ ap roles_text (state_back (settled (fresh n m rows)) settled_fit.limits) ∙ crew_listed
-
 -- ---- the text
 
-module _ (text ws : List ℕ) where
-  abbrev a : ReadReply
-  a = read_crew text (replicate 512 0)
+module _ (text : List ℕ) where
+  listing_is : listing text ≡ (when eqb (text_refusal text) 0 then roles_text (settled (text_state text)) else refused_text (text_refusal text))
+  unfolding listing listed text_state
+  listing_is = by_refusal text (roles_text (settled (text_state text))) refused_text
 
-  abbrev roles : List ℕ
-  roles = listed a.n a.m (rows_at a.n a.words 0)
-
-  pub text_refused : (r : Refusal) → read_result (Err r) ws ≡ read_crew text (replicate 512 0) → refused_text (number_of r) ≡ listing text
-  unfolding listing read_result read_refused
+  -- refused
+  pub text_refused : (r : Refusal) → number_of r ≡ text_refusal text → refused_text (number_of r) ≡ listing text
   text_refused r p =
-      let code : number_of r ≡ a.code = ap (λ (x : ReadReply). x.code) p in
-      ap refused_text code
-      ∙ sym (when-false (eqb a.code 0) roles (refused_text a.code) (not-So (eqb a.code 0) (λ h. some_number r (code ∙ (eqb_iff a.code 0).0 h))))
+      ap refused_text p
+      ∙ sym (listing_is ∙ when-false (eqb (text_refusal text) 0) _ (refused_text (text_refusal text)) (not-So (eqb (text_refusal text) 0) (λ h. some_number r (p ∙ (eqb_iff (text_refusal text) 0).0 h))))
 
-  pub text_listed : (size : CrewSize) → read_result (Ok size) ws ≡ read_crew text (replicate 512 0)
-      → listed size.n size.m (rows_at size.n (take (4 * size.n) ws) 0) ≡ listing text
-  unfolding listing read_result
-  text_listed size p =
-      ap (listed size.n size.m) (taken_rows size.n ws)
-      ∙ ap (λ (x : ReadReply). listed x.n x.m (rows_at x.n x.words 0)) p
-      ∙ sym (when-true (eqb a.code 0) roles (refused_text a.code) ((eqb_iff a.code 0).1 (code_read text (replicate 512 0) size ws p)))
+  -- mined, eliminated and reviewed: the record holds the settled state
+  module _ (ws ws2 : List ℕ) (h : So (sound ws)) (e : ws2 ≡ built (settled (state_of ws))) where
+    settled_fit : Fit (settled (state_of ws))
+    unfolding settled
+    settled_fit = after_fit (state_of ws) _ (sound_fit ws h)
+
+    pub settled_sound : So (sound ws2)
+    settled_sound = rw e (fit_sound (settled (state_of ws)) settled_fit)
+
+    pub text_listed : 0 ≡ text_refusal text → state_of ws ≡ text_state text → roles_text (state_of ws2) ≡ listing text
+    text_listed z p =
+        ap (λ (x : List ℕ). roles_text (state_of x)) e ∙ ap roles_text (state_back (settled (state_of ws)) settled_fit.limits)
+        ∙ ap (λ (x : State). roles_text (settled x)) p
+        ∙ sym (listing_is ∙ when-true (eqb (text_refusal text) 0) (roles_text (settled (text_state text))) _ ((eqb_iff (text_refusal text) 0).1 (sym z)))
 
 -- ---- what can be printed
 

@@ -33,8 +33,7 @@ use Rattle.quality.specs.Given.{weights_of, tolerance_of}
 use Rattle.stores.specs.Stores.{put_at}
 use Rattle.refusals.specs.declared.Refusal.{Refusal}
 use Rattle.refusals.proofs.Numbers.{some_number}
-use Rattle.call_eliminate.specs.declared.Eliminated.{Eliminated}
-use Rattle.call_review.specs.declared.Reviewed.{Reviewed}
+use Rattle.calls_edit.specs.declared.Done.{Done}
 use Rattle.call_eliminate.specs.Results.{eliminate_result}
 use Rattle.call_review.specs.Results.{review_result}
 use Rattle.call_quality.specs.Results.{quality_result}
@@ -47,15 +46,15 @@ use Rattle.text_roles.proofs.Puts.{lines_most}
 -- ---- elimination and review
 
 -- the record as the calls leave it
-eliminated_words : (e : Result Eliminated Refusal) (ws : List ℕ) → (eliminate_result e ws).words ≡ ws
+eliminated_words : (e : Result Done Refusal) (ws : List ℕ) → (eliminate_result e ws).words ≡ ws
 eliminated_words (Ok done) ws = refl
 eliminated_words (Err r) ws = refl
 
-reviewed_words : (e : Result Reviewed Refusal) (ws : List ℕ) → (review_result e ws).words ≡ ws
+reviewed_words : (e : Result Done Refusal) (ws : List ℕ) → (review_result e ws).words ≡ ws
 reviewed_words (Ok done) ws = refl
 reviewed_words (Err r) ws = refl
 
-pub settle_is : (ws ws1 ws2 : List ℕ) (e : Result Eliminated Refusal) (r : Result Reviewed Refusal) → So (sound ws)
+pub settle_is : (ws ws1 ws2 : List ℕ) (e : Result Done Refusal) (r : Result Done Refusal) → So (sound ws)
     → eliminate_result e ws1 ≡ edit ws (eliminate (weights_of 1 1 1 1) (tolerance_of 1 1)) → review_result r ws2 ≡ edit ws1 (review (weights_of 1 1 1 1))
     → ws2 ≡ built (settled (state_of ws))
 unfolding weights_of tolerance_of plain_weights plain_tolerance settled words_after
@@ -72,7 +71,7 @@ unfolding state_of
 sound-limited ws h =
     let s = (sound_iff ws).0 h in
     let c : get_or ws 2 0 ≡ candidate_count (roles_of (state_of ws)) = ap (λ (x : List ℕ). get_or x 2 0) s.3 ∙ read_count (state_of ws) s.1 in
-    record { full = s.0; users = s.1.users_most; permissions = s.1.permissions_most; candidates = rw c s.1.candidates_most }
+    record { users = s.1.users_most; permissions = s.1.permissions_most; candidates = rw c s.1.candidates_most }
 
 -- where the row of a role stands in the record
 row_set : (ws : List ℕ) (k c : ℕ) (s : ℕ) → k < c → get_or ws 2 0 ≡ c → (when ltb k (get_or ws 2 0) then s else 0) ≡ s

@@ -7,11 +7,11 @@ ghost use Rattle.text_roles.specs.Words.{most_bytes};
 ghost use Rattle.listing.specs.Listing.{roles_text};
 
 use call_quality::panel_quality;
-use tables::{STANDING, load};
+use tables::{Record, STANDING, load};
 use text_roles::{put_head, put_lines};
 
 // The head and a line for each standing role.
-pub fn put_roles(rec: &[u64], out: &mut [u8]) -> usize
+pub fn put_roles(rec: &Record, out: &mut [u8]) -> usize
     requires so { So (sound rec.now) }
     requires most_bytes_in_bounds { most_bytes ≤ length out.old }
     ensures { (result ≡ length (roles_text (state_of rec.now))) × (out.new ≡ put_at out.old 0 (roles_text (state_of rec.now))) × (result ≤ most_bytes) }

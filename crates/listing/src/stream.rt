@@ -7,9 +7,7 @@ use crate::{MOST, list_roles};
 use std::io;
 use std::io::{Read, Write};
 use streams::through;
-
-// A byte more than the longest crew text, so that a longer one is noticed.
-const SPACE: usize = 16385;
+use text_crew::SPACE;
 
 // Where the bytes to be read are known, what is written is their listing.
 pub fn list_stream<R: Read, W: Write>(from: &mut R, to: &mut W) -> io::Result<()>

@@ -12,12 +12,9 @@ use borrow.Author.Tests.{eq-eqb, ne_eqb, lt-ltb, le-ltb}
 use Rattle.sets.specs.Sets.{◌∩◌}
 use Rattle.sets.proofs.Truth.{either, equal_or, when-true, when-false}
 use Rattle.sets.proofs.Order.{∩-self, ∩-assoc}
-use Rattle.model.specs.Candidates.{place, add_row, Listed, Growing, Table}
-use Rattle.model.specs.Lists.{rows_at}
+use Rattle.model.specs.Candidates.{place, add_row, Listed, Growing}
 use Rattle.model.proofs.Growing.{Among, listed_at, among_length, among_equal, place_new, place_old, place_iff, place_growing}
-use Rattle.model.proofs.Candidates.{Met, add_empty, add_listed, add_growing, add_old, add_row_lem, add_meet, add_is, added_zero, added_length, admit-place, added_to}
-use Rattle.mining.specs.Mining.{Framed, HoldsList}
-use Rattle.mining.proofs.Placing.{holds_equal}
+use Rattle.model.proofs.Candidates.{Met, add_growing, add_old, add_row_lem, add_meet, add_is, added_zero, added_length, admit-place, added_to}
 
 -- ---- a row's meets, as sets
 
@@ -157,13 +154,6 @@ module _ (r : ℕ) (xs : List ℕ) where
         back y t = ⊎_elim (w.kept y) (⊎_elim (λ k. rw k.0 (w.kept r l)) (met y)) (add_is r xs y t)
 
 -- ---- a row
-
-module _ {t : List ℕ} {n : ℕ} (r : ℕ) where
-  pub row_empty : Framed t n → r ≡ 0 → HoldsList t n (add_row r (rows_at n t 0))
-  row_empty f e = holds_equal (add_row r (rows_at n t 0)) f (sym (rw e (add_empty (rows_at n t 0))))
-
-  pub row_listed : Framed t n → Table (rows_at n t 0) → Listed (rows_at n t 0) r → HoldsList t n (add_row r (rows_at n t 0))
-  row_listed f g l = holds_equal (add_row r (rows_at n t 0)) f (sym (add_listed g l))
 
 pub row_full : (r : ℕ) (xs : List ℕ) → r ≢ 0 → 128 < length (place r xs) → 128 < length (add_row r xs)
 row_full r xs d h =

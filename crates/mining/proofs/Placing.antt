@@ -1,48 +1,67 @@
--- A set placed in a table.
+-- A set put at its place in a table.
 -- Assumes nothing.
-use mathlib.Core.Path.{◌≡◌, sym, ◌∙◌, ap}
-use mathlib.Core.List.{List}
-use Prim.Native.Nat.{ℕ, suc, ◌+◌, ◌≤◌, ◌<◌}
-use native.Mathlib.Numerals.{add-one}
+use mathlib.Core.Path.{◌≡◌, refl, sym, ◌∙◌, ap}
+use mathlib.Core.List.{List, []}
+use Prim.Native.Nat.{ℕ, suc, ◌+◌, ◌*◌, ◌≤◌, ◌<◌}
 use native.Mathlib.Omega.{arith}
-use lib.ListN.{length, get_or}
-use Rattle.model.specs.Candidates.{place, Listed, Growing}
-use Rattle.model.specs.Lists.{rows_at}
+use lib.ListN.{length, get_or, replicate}
+use Rattle.sets.specs.Held.{set_of}
+use Rattle.sets.specs.declared.set.Set.{Set}
+use Rattle.stores.proofs.Stores.{blank}
+use Rattle.model.specs.Candidates.{place, Listed}
+use Rattle.model.specs.Lists.{tabulate, set_at, rows_at}
 use Rattle.model.proofs.Lists.{length-rows_at}
-use Rattle.model.proofs.Growing.{place-listed, placed, placed_length}
+use Rattle.model.proofs.Growing.{growing_none, placed, placed_length, place_old, place_growing}
 use Rattle.tables.specs.Search.{Between, Inserts}
-use Rattle.mining.specs.Mining.{Framed, HoldsList}
+use Rattle.tables.proofs.Rows.{row_at}
+use Rattle.mining.specs.Mining.{Gathered, sets_of}
+use Rattle.mining.proofs.Seeing.{seen_among, seen_none}
 
--- a table holds its own sets, and any list that is equal to theirs
-pub holds_equal : {t : List ℕ} {n : ℕ} (xs : List ℕ) → Framed t n → rows_at n t 0 ≡ xs → HoldsList t n xs
-holds_equal {t} {n} xs f e = record { frame = f; rows = e; count = sym (length-rows_at n t 0) ∙ ap length e }
+pub found_listed : (xs : List ℕ) (i : ℕ) {x : ℕ} → (i < length xs) × (get_or xs i 0 ≡ x) → Listed xs x
+found_listed xs i h = record { place = i; below = h.0; there = h.1 }
 
-pub found_listed : (n : ℕ) (t : List ℕ) (i : ℕ) {x : ℕ} → (i < n) × (get_or (rows_at n t 0) i 0 ≡ x) → Listed (rows_at n t 0) x
-found_listed n t i h = record { place = i; below = rw (length-rows_at n t 0) h.0; there = h.1 }
+-- the set at a place is read from the table
+pub set_read : (n : ℕ) (t : List ℕ) {xs : List ℕ} {i x : ℕ} → rows_at n t 0 ≡ xs → i < n → x ≡ set_at 4 t (4 * i) → (i < length xs) × (get_or xs i 0 ≡ x)
+set_read n t e l h = rw (← e) (rw (length-rows_at n t 0) l, row_at n t _ l ∙ sym h)
 
-pub holds-listed : {t : List ℕ} {n x : ℕ} → Framed t n → Growing (rows_at n t 0) → Listed (rows_at n t 0) x → HoldsList t n (place x (rows_at n t 0))
-holds-listed {t} {n} {x} f g l = holds_equal (place x (rows_at n t 0)) f (sym (place-listed g l))
+module _ (n : ℕ) (t : List ℕ) {xs : List ℕ} {x i : ℕ} (e : rows_at n t 0 ≡ xs) (b : Between (length xs) xs x i) where
+  many : n ≡ length xs
+  many = sym (length-rows_at n t 0) ∙ ap length e
 
-module _ (n : ℕ) (t : List ℕ) {x i : ℕ} (b : Between n (rows_at n t 0) x i) where
-  abbrev old : List ℕ
-  old = rows_at n t 0
+  pub place_inside : i ≤ n
+  place_inside = rw many b.within
 
-  within : i ≤ length old
-  within = rw (length-rows_at n t 0) b.within
+  new_length : length (place x xs) ≡ suc (length xs)
+  new_length = placed_length x xs i b.within b.before b.after
 
-  after : (j : ℕ) → i ≤ j → j < length old → x < get_or old j 0
-  after j h l = b.after j h (rw (length-rows_at n t 0) at l)
+  pub new_full : n ≡ 128 → 128 < length (place x xs)
+  new_full f = rw new_length (omega (arith, many))
 
-  pub new_length : length (place x (rows_at n t 0)) ≡ suc n
-  new_length = placed_length x old i within b.before after ∙ ap suc (length-rows_at n t 0)
+  module _ {t' : List ℕ} (h : Inserts n i x t t') where
+    pub new_sets : rows_at (n + 1) t' 0 ≡ place x xs
+    new_sets = h.rows ∙ rw e (sym (placed x xs i b.within b.before b.after))
 
-  pub new_full : n ≡ 128 → 128 < length (place x (rows_at n t 0))
-  new_full e = rw new_length (omega arith)
+    pub new_gathered : {slots : List ℕ} → Gathered t n slots → (n ≡ 128 → ⊥) → Gathered t' (n + 1) slots
+    new_gathered g d =
+        record {
+          few = omega (arith, g.few);
+          words = h.words g.words;
+          rest = λ w l. h.rest w l ∙ g.rest w (omega arith);
+          grows = rw new_sets (place_growing x xs (rw e at g.grows));
+          seen = rw new_sets (seen_among (rw e at g.seen) (place_old x xs));
+        }
 
-  pub holds_new : {t' : List ℕ} → Framed t n → (n ≡ 128 → ⊥) → Inserts n i x t t' → length t' ≡ 512 → HoldsList t' (n + 1) (place x (rows_at n t 0))
-  holds_new {t'} f d h e =
-      record {
-        frame = record { size = e; few = omega (arith, f.few); rest = λ w l. h.rest w l ∙ f.rest w (omega arith) };
-        rows = h.rows ∙ sym (placed x old i within b.before after);
-        count = add-one n ∙ sym new_length;
-      }
+-- no sets
+pub sets_none : (t : List ℕ) → rows_at 0 t 0 ≡ []
+unfolding rows_at tabulate
+sets_none t = refl
+
+pub gathered_none : (none : Set 4) → set_of none ≡ 0 → Gathered (replicate 512 0) 0 (sets_of (replicate 128 none))
+gathered_none none e =
+    record {
+      few = omega arith;
+      words = λ i. rw (blank 512 i) (omega arith);
+      rest = λ i l. blank 512 i;
+      grows = rw sets_none growing_none;
+      seen = seen_none none _ e;
+    }

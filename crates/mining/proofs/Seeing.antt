@@ -16,10 +16,9 @@ use Rattle.sets.specs.Held.{set_of}
 use Rattle.sets.specs.declared.set.Set.{Set}
 use borrow.Author.Tests.{eqb-true, eqb-false}
 use Rattle.sets.proofs.Truth.{equal_or}
-use Rattle.model.specs.Candidates.{place, Listed}
-use Rattle.model.proofs.Growing.{Among, place_new, place_old}
-use Rattle.mining.specs.Mining.{Admits, sets_of, Seen, Known, Remembered, Adds}
-use Rattle.std.specs.Prelude.{Option, Some, None}
+use Rattle.model.specs.Candidates.{Listed}
+use Rattle.model.proofs.Growing.{Among}
+use Rattle.mining.specs.Mining.{sets_of, Seen, Known, Remembered}
 
 -- a set stored in a slot
 pub slot_stored : (slots : List (Set 4)) (s : ℕ) (x : Set 4) → length slots ≡ 128 → s < 128 → Remembered (set_of x) (sets_of slots) (sets_of (set slots s x))
@@ -48,13 +47,11 @@ module _ {slots xs : List ℕ} (s : Seen slots xs) where
   pub seen_among : {ys : List ℕ} → Among xs ys → Seen slots ys
   seen_among f = record { listed = λ j h. ⊎_elim ◌⊎◌.inl (λ l. ◌⊎◌.inr (f (get_or slots j 0) l)) (s.listed j h) }
 
-  pub seen_placed : {slots' : List ℕ} (x : ℕ) → Remembered x slots slots' → Seen slots' (place x xs)
-  seen_placed {slots'} x r =
+  pub seen_more : {slots' : List ℕ} (x : ℕ) → Listed xs x → Remembered x slots slots' → Seen slots' xs
+  seen_more {slots'} x l r =
       record {
         listed =
-            λ j h.
-            equal_or j r.slot (λ (q : j ≡ r.slot). rw (q, r.there) (◌⊎◌.inr (place_new x xs)))
-            (λ d. rw (r.others j d) (⊎_elim ◌⊎◌.inl (λ l. ◌⊎◌.inr (place_old x xs (get_or slots j 0) l)) (s.listed j h)));
+            λ j h. equal_or j r.slot (λ (q : j ≡ r.slot). rw (q, r.there) (◌⊎◌.inr l)) (λ d. rw (r.others j d) (s.listed j h));
       }
 
 -- ---- the answers' cases
@@ -68,11 +65,6 @@ pub known_there : (slots : List (Set 4)) (x : ℕ) (y : Set 4) (s : ℕ) (d : Se
     → Known (sets_of slots) x (set_of y) true
 unfolding set_of
 known_there slots x y s d e h t = ◌⊎◌.inr (◌⊎◌.inr (s, h, ap value (same_text y.words (get_or slots s d).words (sym t)) ∙ sym (slot_is slots s d (rw e h))))
-
--- slots of sets that are all in the table
-pub admits_adds : (xs t slots : List ℕ) (a : Option ℕ) → Admits xs t a → Seen slots xs → Adds xs t slots a
-admits_adds xs t slots (Some k) h s = (h, s)
-admits_adds xs t slots None h s = h
 
 -- empty slots
 pub seen_none : (none : Set 4) (xs : List ℕ) → set_of none ≡ 0 → Seen (sets_of (replicate 128 none)) xs

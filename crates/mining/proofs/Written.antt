@@ -1,17 +1,16 @@
 -- A table's words are those of its sets, and zeros.
 -- Assumes nothing.
-use mathlib.Core.Path.{◌≡◌, sym, ◌∙◌}
+use mathlib.Core.Path.{◌≡◌, sym, ◌∙◌, ap}
 use mathlib.Core.List.{List}
-use Prim.Native.Nat.{ℕ, ◌+◌, ◌*◌, ◌/◌, ◌%◌, ◌≤◌, ◌<◌}
+use Prim.Native.Nat.{ℕ, ◌+◌, ◌*◌, ◌≤◌, ◌<◌}
 use native.Mathlib.Omega.{arith}
 use lib.ListN.{length, get_or, get_or-eq_default}
 use Rattle.sets.specs.Words.{word}
 use Rattle.sets.proofs.Truth.{either}
 use Rattle.sets.proofs.Words.{Words, word_value, word-zero}
-use Rattle.model.specs.Lists.{tabulate, elems, set_at, rows_at}
-use Rattle.model.specs.Record.{region_word}
-use Rattle.model.proofs.Lists.{tabulate_is, length_elems, get_d_elems, length-rows_at}
-use Rattle.mining.specs.Mining.{HoldsList, Written}
+use Rattle.model.specs.Lists.{elems, set_at, rows_at}
+use Rattle.model.proofs.Lists.{length_elems, get_d_elems, length-rows_at}
+use Rattle.mining.specs.Mining.{Gathered, Written}
 use Rattle.tables.proofs.Rows.{row_at}
 
 elems_words : (t : List ℕ) → Words t → (at n : ℕ) → Words (elems t at n)
@@ -33,16 +32,10 @@ table_words t xs c e f z k j h =
     let b : length (rows_at c t 0) ≤ k = rw (length-rows_at c t 0) l in
     rw (get_or-eq_default (rows_at c t 0) 0 b) (z (4 * k + j) (omega arith) ∙ sym (word-zero j))))
 
-pub holds_written : {t : List ℕ} {c : ℕ} {xs : List ℕ} → HoldsList t c xs → Words t → Written t c xs
-holds_written {t} {c} {xs} h f = record { holds = h; words = λ i j l k. table_words t xs c h.rows f h.frame.rest i j k }
-
--- the whole table, as a region of the record
-module _ {t : List ℕ} {c : ℕ} {xs : List ℕ} (w : Written t c xs) where
-  pub written_word : (i : ℕ) → i < 512 → get_or t i 0 ≡ region_word 4 (λ k. get_or xs k 0) i
-  unfolding region_word
-  written_word i h =
-      let e : 4 * (i / 4) + i % 4 ≡ i = omega arith in
-      rw e at (w.words (i / 4) (i % 4) (omega arith) (omega arith))
-
-  pub written_whole : t ≡ tabulate 512 (region_word 4 (λ k. get_or xs k 0))
-  written_whole = tabulate_is 512 (region_word 4 (λ k. get_or xs k 0)) t w.holds.frame.size written_word
+pub gathered_written : {t : List ℕ} {c : ℕ} {xs slots : List ℕ} → length t ≡ 512 → rows_at c t 0 ≡ xs → Gathered t c slots → Written t xs
+gathered_written {t} {c} {xs} size e g =
+    record {
+      size = size;
+      few = rw (sym (ap length e) ∙ length-rows_at c t 0) g.few;
+      words = λ i j l k. table_words t xs c e g.words g.rest i j k;
+    }

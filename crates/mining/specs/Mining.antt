@@ -1,39 +1,34 @@
--- What the functions promise of their answers, by the answers' cases. A table t with k sets has them at `rows_at k t 0`.
+-- What the functions promise of the sets they found, and of their answers, by the answers' cases. A table t with k sets has them at `rows_at k t 0`.
 -- Assumes nothing.
-use Rattle.std.specs.Prelude.{◌≡◌, Bool, true, false, ◌≢◌, ◌⊎◌, List, ℕ, ◌+◌, ◌*◌, ◌≤◌, ◌<◌, length, get_or, map, Option, Some, None}
+use Rattle.std.specs.Prelude.{◌≡◌, ⊤, Bool, true, false, ◌≢◌, ◌⊎◌, List, ℕ, ◌+◌, ◌*◌, ◌^◌, ◌≤◌, ◌<◌, length, get_or, map, Option, Some, None}
 use Rattle.sets.specs.Words.{word}
 use Rattle.sets.specs.Held.{set_of}
 use Rattle.sets.specs.declared.set.Set.{Set}
-use Rattle.model.specs.Candidates.{Listed}
+use Rattle.model.specs.Candidates.{Listed, Growing}
 use Rattle.model.specs.Lists.{rows_at}
 use Rattle.tables.specs.Tables.{table256_length}
 
--- a table of 512 words with k sets: there are at most 128, and zeros follow them
-pub record Framed (t : List ℕ) (k : ℕ) : Type 0 where
-  pub size : length t ≡ table256_length
-  pub few : k ≤ 128
-  pub rest : (i : ℕ) → 4 * k ≤ i → get_or t i 0 ≡ 0
+-- sets that were to be xs
+abbrev pub Adds : List ℕ → List ℕ → Option ⊤ → Type 0
+Adds xs ys (Some x) = ys ≡ xs
+Adds xs ys None = 128 < length xs
 
--- the sets are xs
-pub record HoldsList (t : List ℕ) (k : ℕ) (xs : List ℕ) : Type 0 where
-  pub frame : Framed t k
-  pub rows : rows_at k t 0 ≡ xs
+-- k sets that are xs
+pub record Complete (xs ys : List ℕ) (k : ℕ) : Type 0 where
+  pub sets : ys ≡ xs
   pub count : k ≡ length xs
+  pub few : k ≤ 128
 
--- a table that was to hold xs
-abbrev pub Admits : List ℕ → List ℕ → Option ℕ → Type 0
-Admits xs t (Some k) = HoldsList t k xs
-Admits xs t None = 128 < length xs
-
--- a table that holds xs, by its words
-pub record Written (t : List ℕ) (k : ℕ) (xs : List ℕ) : Type 0 where
-  pub holds : HoldsList t k xs
-  pub words : (i j : ℕ) → i < 128 → j < 4 → get_or t (4 * i + j) 0 ≡ word (get_or xs i 0) j
-
--- a table that was to hold the candidates xs
+-- sets that were to be the candidates xs, and how many they are
 abbrev pub Mines : List ℕ → List ℕ → Option ℕ → Type 0
-Mines xs t (Some k) = Written t k xs
-Mines xs t None = 128 < length xs
+Mines xs ys (Some k) = Complete xs ys k
+Mines xs ys None = 128 < length xs
+
+-- a table that has the words of the sets xs, and zeros behind them
+pub record Written (t xs : List ℕ) : Type 0 where
+  pub size : length t ≡ table256_length
+  pub few : length xs ≤ 128
+  pub words : (i j : ℕ) → i < 128 → j < 4 → get_or t (4 * i + j) 0 ≡ word (get_or xs i 0) j
 
 -- ---- the meets that were seen
 
@@ -57,7 +52,11 @@ pub record Remembered (x : ℕ) (slots slots' : List ℕ) : Type 0 where
   pub there : get_or slots' slot 0 ≡ x
   pub others : (s : ℕ) → s ≢ slot → get_or slots' s 0 ≡ get_or slots s 0
 
--- a table that was to hold xs, with the slots
-abbrev pub Adds : List ℕ → List ℕ → List ℕ → Option ℕ → Type 0
-Adds xs t slots (Some k) = HoldsList t k xs × Seen slots xs
-Adds xs t slots None = 128 < length xs
+-- ---- the table, how many sets it has, and the slots
+
+pub record Gathered (t : List ℕ) (k : ℕ) (slots : List ℕ) : Type 0 where
+  pub few : k ≤ 128
+  pub words : (i : ℕ) → get_or t i 0 < 2 ^ 64
+  pub rest : (i : ℕ) → 4 * k ≤ i → get_or t i 0 ≡ 0
+  pub grows : Growing (rows_at k t 0)
+  pub seen : Seen slots (rows_at k t 0)

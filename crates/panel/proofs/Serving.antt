@@ -26,7 +26,7 @@ use Rattle.stores.specs.Stores.{put_at}
 use Rattle.refusals.specs.declared.Refusal.{Refusal}
 use Rattle.refusals.specs.Numbers.{number_of}
 use Rattle.refusals.proofs.Numbers.{some_number}
-use Rattle.panel.specs.declared.list.Done.{Done}
+use Rattle.calls_edit.specs.declared.Done.{Done}
 use Rattle.panel.specs.declared.list.NotServed.TheVariants.{Unreadable, Refused}
 use Rattle.call_mine.specs.Results.{mine_result}
 use Rattle.panel.specs.Results.{done_result, done_words}

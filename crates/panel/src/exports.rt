@@ -18,8 +18,7 @@ ghost use Rattle.call_write.specs.Conditions.{WriteConditions};
 ghost use Rattle.call_write.specs.Results.{write_result};
 ghost use Rattle.call_write.specs.Writer.{write_crew};
 
-use call_eliminate::Eliminated;
-use call_review::Reviewed;
+use calls_edit::Done;
 use refusals::Refusal;
 use text_crew::CrewSize;
 
@@ -52,20 +51,14 @@ pub fn panel_eliminate(
     w4: u64,
     a: u64,
     b: u64,
-) -> Result<Eliminated, Refusal>
+) -> Result<Done, Refusal>
     ensures rec_after { eliminate_result result rec.new ≡ edit rec.old (eliminate (weights_of w1 w2 w3 w4) (tolerance_of a b)) }
     ensures eliminate_conditions { EliminateConditions rec.old (weights_of w1 w2 w3 w4) (tolerance_of a b) (eliminate_result result rec.new) }
 {
     call_eliminate::panel_eliminate(rec, w1, w2, w3, w4, a, b)
 }
 
-pub fn panel_review(
-    rec: &mut [u64],
-    w1: u64,
-    w2: u64,
-    w3: u64,
-    w4: u64,
-) -> Result<Reviewed, Refusal>
+pub fn panel_review(rec: &mut [u64], w1: u64, w2: u64, w3: u64, w4: u64) -> Result<Done, Refusal>
     ensures rec_after { review_result result rec.new ≡ edit rec.old (review (weights_of w1 w2 w3 w4)) }
     ensures review_conditions { ReviewConditions rec.old (weights_of w1 w2 w3 w4) (review_result result rec.new) }
 {

@@ -4,8 +4,7 @@
 mod exports;
 mod list;
 
-pub use call_eliminate::Eliminated;
-pub use call_review::Reviewed;
+pub use calls_edit::Done;
 pub use exports::{
     panel_eliminate, panel_may, panel_mine, panel_quality, panel_read_crew, panel_restore,
     panel_review, panel_strike, panel_write_crew,

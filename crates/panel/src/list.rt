@@ -9,6 +9,7 @@ ghost use Rattle.panel.specs.Lists.{ServedAs};
 ghost use Rattle.panel.specs.declared.list.NotServed.TheVariants.{Refused};
 
 use crate::exports::{panel_eliminate, panel_mine, panel_restore, panel_review, panel_strike};
+use calls_edit::Done;
 use calls_list::{ANSWER, CALL, can_read};
 use refusals::Refusal;
 use tables::copy;
@@ -33,27 +34,8 @@ impl From<Refusal> for NotServed {
 enum Call {
     Strike(u64),
     Restore(u64),
-    Eliminate {
-        w1: u64,
-        w2: u64,
-        w3: u64,
-        w4: u64,
-        a: u64,
-        b: u64,
-    },
-    Review {
-        w1: u64,
-        w2: u64,
-        w3: u64,
-        w4: u64,
-    },
-}
-
-// How many roles a call struck or restored in its passes, and how many it examined there.
-#[derive(Clone, Copy)]
-struct Done {
-    changed: u64,
-    examined: u64,
+    Eliminate { weights: [u64; 4], a: u64, b: u64 },
+    Review { weights: [u64; 4] },
 }
 
 // The call that stands at a place of the list.
@@ -62,65 +44,39 @@ fn read_call(calls: &[u64], at: usize) -> Call
     ensures { call_of result ≡ call_at calls.now at }
 {
     let x = calls[at + 1];
+    let weights = [x, calls[at + 2], calls[at + 3], calls[at + 4]];
     match calls[at] {
         0 => Call::Strike(x),
         1 => Call::Restore(x),
         2 => Call::Eliminate {
-            w1: x,
-            w2: calls[at + 2],
-            w3: calls[at + 3],
-            w4: calls[at + 4],
+            weights,
             a: calls[at + 5],
             b: calls[at + 6],
         },
-        _ => Call::Review {
-            w1: x,
-            w2: calls[at + 2],
-            w3: calls[at + 3],
-            w4: calls[at + 4],
-        },
+        _ => Call::Review { weights },
     }
 }
+
+// What a call without passes gives.
+const NO_PASSES: Done = Done {
+    changed: 0,
+    examined: 0,
+};
 
 // Makes one call.
 fn serve_call(rec: &mut [u64], call: Call) -> Result<Done, Refusal>
     ensures { done_result result rec.new ≡ edit rec.old (call_of call) }
 {
     match call {
-        Call::Strike(k) => {
-            panel_strike(rec, k)?;
-            Ok(Done {
-                changed: 0,
-                examined: 0,
-            })
+        Call::Strike(k) => panel_strike(rec, k).map(|()| NO_PASSES),
+        Call::Restore(k) => panel_restore(rec, k).map(|()| NO_PASSES),
+        Call::Eliminate { weights, a, b } => {
+            let [w1, w2, w3, w4] = weights;
+            panel_eliminate(rec, w1, w2, w3, w4, a, b)
         }
-        Call::Restore(k) => {
-            panel_restore(rec, k)?;
-            Ok(Done {
-                changed: 0,
-                examined: 0,
-            })
-        }
-        Call::Eliminate {
-            w1,
-            w2,
-            w3,
-            w4,
-            a,
-            b,
-        } => {
-            let done = panel_eliminate(rec, w1, w2, w3, w4, a, b)?;
-            Ok(Done {
-                changed: done.removed,
-                examined: done.examined,
-            })
-        }
-        Call::Review { w1, w2, w3, w4 } => {
-            let done = panel_review(rec, w1, w2, w3, w4)?;
-            Ok(Done {
-                changed: done.restored,
-                examined: done.examined,
-            })
+        Call::Review { weights } => {
+            let [w1, w2, w3, w4] = weights;
+            panel_review(rec, w1, w2, w3, w4)
         }
     }
 }

@@ -4,8 +4,7 @@ use Rattle.std.specs.Prelude.{ℕ, Bool, Result, Ok, Err}
 use Rattle.sets.specs.Truth.{bit}
 use Rattle.refusals.specs.declared.Refusal.{Refusal}
 use Rattle.refusals.specs.Numbers.{number_of, code_of}
-use Rattle.call_eliminate.specs.declared.Eliminated.{Eliminated}
-use Rattle.call_review.specs.declared.Reviewed.{Reviewed}
+use Rattle.calls_edit.specs.declared.Done.{Done}
 use Rattle.text_crew.specs.declared.CrewSize.{CrewSize}
 use Rattle.panel_c.specs.declared.answers.MineAnswer.{MineAnswer}
 use Rattle.panel_c.specs.declared.answers.StrikeAnswer.{StrikeAnswer}
@@ -27,12 +26,12 @@ strike_answer r = record { code = code_of r }
 abbrev pub restore_answer : {A : Type 0} → Result A Refusal → RestoreAnswer
 restore_answer r = record { code = code_of r }
 
-abbrev pub eliminate_answer : Result Eliminated Refusal → EliminateAnswer
-eliminate_answer (Ok done) = record { code = 0; removed = done.removed; examined = done.examined }
+abbrev pub eliminate_answer : Result Done Refusal → EliminateAnswer
+eliminate_answer (Ok done) = record { code = 0; removed = done.changed; examined = done.examined }
 eliminate_answer (Err r) = record { code = number_of r; removed = 0; examined = 0 }
 
-abbrev pub review_answer : Result Reviewed Refusal → ReviewAnswer
-review_answer (Ok done) = record { code = 0; restored = done.restored; examined = done.examined }
+abbrev pub review_answer : Result Done Refusal → ReviewAnswer
+review_answer (Ok done) = record { code = 0; restored = done.changed; examined = done.examined }
 review_answer (Err r) = record { code = number_of r; restored = 0; examined = 0 }
 
 abbrev pub quality_answer : Result ℕ Refusal → QualityAnswer

@@ -2,7 +2,7 @@
 ghost use Rattle.std.specs.Prelude.{◌≡◌};
 ghost use Rattle.panel_c.specs.Answers.{mine_answer, strike_answer, restore_answer, eliminate_answer, review_answer, quality_answer, may_answer, crew_read, crew_written};
 
-use panel::{CrewSize, Eliminated, Refusal, Reviewed};
+use panel::{CrewSize, Done, Refusal};
 
 // The refusal's number, or 0, and beside 0 the number of candidates.
 #[repr(C)]
@@ -38,14 +38,14 @@ pub struct EliminateAnswer {
     pub examined: u64,
 }
 
-impl From<Result<Eliminated, Refusal>> for EliminateAnswer {
+impl From<Result<Done, Refusal>> for EliminateAnswer {
     ghost from_gives = { λ outcome answer. answer ≡ eliminate_answer outcome };
 
-    fn from(outcome: Result<Eliminated, Refusal>) -> EliminateAnswer {
+    fn from(outcome: Result<Done, Refusal>) -> EliminateAnswer {
         match outcome {
             Ok(done) => EliminateAnswer {
                 code: 0,
-                removed: done.removed,
+                removed: done.changed,
                 examined: done.examined,
             },
             Err(refusal) => EliminateAnswer {
@@ -66,14 +66,14 @@ pub struct ReviewAnswer {
     pub examined: u64,
 }
 
-impl From<Result<Reviewed, Refusal>> for ReviewAnswer {
+impl From<Result<Done, Refusal>> for ReviewAnswer {
     ghost from_gives = { λ outcome answer. answer ≡ review_answer outcome };
 
-    fn from(outcome: Result<Reviewed, Refusal>) -> ReviewAnswer {
+    fn from(outcome: Result<Done, Refusal>) -> ReviewAnswer {
         match outcome {
             Ok(done) => ReviewAnswer {
                 code: 0,
-                restored: done.restored,
+                restored: done.changed,
                 examined: done.examined,
             },
             Err(refusal) => ReviewAnswer {

@@ -1,13 +1,11 @@
 // The four counts over a record's rows.
-ghost use Rattle.std.specs.Prelude.{◌≡◌, ◌*◌, ◌≤◌, length, get_or};
-ghost use Rattle.std.specs.Int.Count.{ones};
-ghost use Rattle.sets.specs.Truth.{total};
+ghost use Rattle.std.specs.Prelude.{◌≡◌, ◌≤◌, get_or};
 ghost use Rattle.model.specs.Lists.{set_at};
 ghost use Rattle.model.specs.Record.{role_rows_of};
 ghost use Rattle.model.specs.Quality as model;
 ghost use Rattle.quality.specs.Numbers.{counts_in, Few};
 
-use tables::{JUNIORS, LENGTH, MEMBERS, PERMISSIONS, Record, STANDING, load};
+use tables::{JUNIORS, MEMBERS, PERMISSIONS, Record, STANDING, load};
 
 #[derive(Clone, Copy)]
 pub struct Counts {
@@ -25,28 +23,19 @@ pub fn count_rows(rec: &Record) -> Counts
 {
     let c = rec[2] as usize;
     let roles = load::<2>(rec, STANDING).count();
-    let members = count_sets::<2>(&rec[MEMBERS..JUNIORS], c);
-    let permissions = count_sets::<4>(&rec[PERMISSIONS..MEMBERS], c);
-    let links = count_sets::<2>(&rec[JUNIORS..LENGTH], c);
+    let members = (0..c)
+        .map(|k| load::<2>(rec, MEMBERS + 2 * k).count())
+        .sum::<usize>();
+    let permissions = (0..c)
+        .map(|k| load::<4>(rec, PERMISSIONS + 4 * k).count())
+        .sum::<usize>();
+    let links = (0..c)
+        .map(|k| load::<2>(rec, JUNIORS + 2 * k).count())
+        .sum::<usize>();
     Counts {
         roles: roles as u64,
         members: members as u64,
         permissions: permissions as u64,
         links: links as u64,
     }
-}
-
-// How many items the first c sets of a table have together.
-fn count_sets<const WORDS: usize>(table: &[u64], c: usize) -> usize
-    requires width { WORDS ≤ 4 }
-    requires c_bound { c ≤ 128 }
-    requires c_in_bounds { WORDS * c ≤ length table.now }
-    ensures value { result ≡ total c (λ k. ones (set_at WORDS table.now (WORDS * k))) }
-    ensures upper_bound { result ≤ 64 * WORDS * 128 }
-{
-    let mut n = 0;
-    for k in 0..c {
-        n += load::<WORDS>(table, WORDS * k).count();
-    }
-    n
 }

@@ -6,7 +6,7 @@ use mathlib.Core.List.{List, [], ◌∷◌}
 use Prim.Native.Nat.{ℕ, ◌+◌, ◌*◌, ◌^◌, ◌≤◌, ◌<◌}
 use native.Mathlib.Nat.{lt_of_lt_of_le}
 use native.Mathlib.Omega.{arith}
-use lib.ListN.{length, get_or, set, take, drop, get_or-eq_default}
+use lib.ListN.{length, get_or, take, drop, get_or-eq_default}
 use lib.Pow.{pow_mono}
 use lib.Seq.{ext_get_or}
 use Rattle.sets.specs.Words.{word}
@@ -37,18 +37,12 @@ pub header_is : (st : State) (n m c r : ℕ) → st.users ≡ n → st.permissio
 unfolding header_word
 header_is st n m c r en em ec er i l = rw (sym en, sym em, sym ec, sym er) refl
 
-pub stored8 : (ws : List ℕ) (a b c d e f g h r : ℕ) → e ≡ word r 0 → f ≡ word r 1
-    → set (set (set (set (set (set (set (set ws 0 a) 1 b) 2 c) 3 d) 4 e) 5 f) 6 g) 7 h
-    ≡ put_at ws 0 (a ∷ b ∷ c ∷ d ∷ word r 0 ∷ word r 1 ∷ g ∷ h ∷ [])
-unfolding put_at
-stored8 ws a b c d e f g h r ee ef = rw (ee, ef) refl
-
 -- ---- the candidates, written into a record of zeros
 
-pub only_candidates : (ws table xs : List ℕ) (c : ℕ) → length ws ≡ record_length → ((i : ℕ) → get_or ws i 0 ≡ 0) → Written table c xs
+pub only_candidates : (ws table xs : List ℕ) → length ws ≡ record_length → ((i : ℕ) → get_or ws i 0 ≡ 0) → Written table xs
     → OnlyCandidates (put_at ws sets_start table) xs
-only_candidates ws table xs c size zero w =
-    let lt : length table ≡ 512 = w.holds.frame.size in
+only_candidates ws table xs size zero w =
+    let lt : length table ≡ 512 = w.size in
     record {
       size = length-put_at ws sets_start table ∙ size;
       sets = λ k j lk lj.
@@ -158,7 +152,6 @@ module _ (st : State) (lim : Limits st) (ws : List ℕ) (h : Headed st ws) where
   pub headed_fills : FillsFrom ws
   headed_fills =
       record {
-        size = h.size;
         few_users = rw head_users lim.users_most;
         few_candidates = rw head_count lim.candidates_most;
         grows = rw (sym head_sets) (candidates_growing st.rows);

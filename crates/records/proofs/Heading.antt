@@ -30,13 +30,13 @@ unfolding header_word
 header_words st a b c d e f g h ea eb ec ed ee ef eg eh i = rw (ea, eb, ec, ed, ee, ef, eg, eh) refl
 
 module _ (ws table : List ℕ) (c : ℕ) (fits : (i : ℕ) → get_or ws i 0 < 2 ^ 64) (full : length ws ≡ record_length) (few : get_or ws 0 0 ≤ 128)
-    (w : Written table c (candidates (state_of ws).rows)) where
+    (count : c ≡ length (candidates (state_of ws).rows)) (w : Written table (candidates (state_of ws).rows)) where
   abbrev n : ℕ
   n = get_or ws 0 0
 
   counted : candidate_count (roles_of (state_of ws)) ≡ c
   unfolding roles_of candidate_count
-  counted = sym w.holds.count
+  counted = sym count
 
   no_row : (u : ℕ) → get_or ws 0 0 ≤ u → get_or (state_of ws).rows u 0 ≡ 0
   unfolding state_of
@@ -69,7 +69,7 @@ module _ (ws table : List ℕ) (c : ℕ) (fits : (i : ℕ) → get_or ws i 0 < 2
       sets_are : (k j : ℕ) → k < 128 → j < 4 → get_or ws (sets_start + 4 * k + j) 0 ≡ word (permission_set (roles_of (state_of ws)) k) j
       sets_are k j lk lj =
           let e : sets_start + (4 * k + j) ≡ sets_start + 4 * k + j = omega arith in
-          let inside : 4 * k + j < length table = rw w.holds.frame.size (omega arith) in
+          let inside : 4 * k + j < length table = rw w.size (omega arith) in
           ap (λ (i : ℕ). get_or ws i 0) (sym e) ∙ (eqb_iff _ _).0 ((all_iff (length table) _).0 same (4 * k + j) inside) ∙ w.words k j lk lj
 
   module _ (h : Headed (state_of ws) ws) where
@@ -95,7 +95,7 @@ module _ (ws table : List ℕ) (c : ℕ) (fits : (i : ℕ) → get_or ws i 0 < 2
     headed_table =
         (all_iff (length table) _).1
         (λ i l.
-        let b : i < 512 = rw w.holds.frame.size at l in
+        let b : i < 512 = rw w.size at l in
         let e : 4 * (i / 4) + i % 4 ≡ i = omega arith in
         let e' : sets_start + 4 * (i / 4) + i % 4 ≡ sets_start + i = omega arith in
         (eqb_iff _ _).1

@@ -159,10 +159,15 @@ all_standing n m rows c few count =
     (λ k x. let a = (collect_iff c (λ k. true) k).0 x in (collect_iff 128 (λ k. ltb k c) k).1 (let l = a.0 in omega arith, (ltb_iff k c).1 a.0))
     (λ k x. (collect_iff c (λ k. true) k).1 ((ltb_iff k c).0 ((collect_iff 128 (λ k. ltb k c) k).0 x).1, refl)))
 
-pub fresh_described : (n m : ℕ) (crew : List ℕ) (c r : ℕ) → Limits (fresh n m crew) → candidate_count (roles_of (fresh n m crew)) ≡ c → r ≡ collect 128 (λ k. ltb k c)
+fresh_count : (n m : ℕ) (crew : List ℕ) → candidate_count (roles_of (fresh n m crew)) ≡ length (candidates crew)
+unfolding fresh roles_of candidate_count
+fresh_count n m crew = refl
+
+pub fresh_described : (n m : ℕ) (crew : List ℕ) (c r : ℕ) → Limits (fresh n m crew) → c ≡ length (candidates crew) → r ≡ collect 128 (λ k. ltb k c)
     → Described (fresh n m crew) crew n m c r
 unfolding fresh
-fresh_described n m crew c r lim count er =
+fresh_described n m crew c r lim e er =
+    let count : candidate_count (roles_of (fresh n m crew)) ≡ c = fresh_count n m crew ∙ sym e in
     record {
       limits = lim;
       users = refl;

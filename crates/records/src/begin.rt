@@ -16,19 +16,16 @@ ghost use Rattle.records.specs.Records.{OnlyCandidates, Described};
 use indexes::{Index, fill_index};
 use rows::build_rows;
 use sets::Set128;
-use tables::{CREW, Record, Table128, copy, crew_rows};
+use tables::{CREW, Record, Table128, as_rows, copy};
 
 fn write_header(rec: &mut Record, n: u64, m: u64, c: u64, standing: Set128)
     ensures { rec.new ≡ put_at rec.old 0 (n ∷ m ∷ c ∷ 0 ∷ word (set_of standing) 0 ∷ word (set_of standing) 1 ∷ 0 ∷ 0 ∷ []) }
 {
-    rec[0] = n;
-    rec[1] = m;
-    rec[2] = c;
-    rec[3] = 0;
-    rec[4] = standing.word(0);
-    rec[5] = standing.word(1);
-    rec[6] = 0;
-    rec[7] = 0;
+    copy(
+        rec,
+        0,
+        &[n, m, c, 0, standing.word(0), standing.word(1), 0, 0],
+    );
 }
 
 // The header and the crew rows, for a record that has nothing but its candidates.
@@ -47,7 +44,7 @@ pub fn index_record(rec: &Record, index: &mut Index)
     ensures { (st : State) → SourceOf st rec.now → Indexed (roles_of st) index.new }
 {
     let n = rec[0] as usize;
-    let rows = crew_rows(rec, CREW, n);
+    let rows = as_rows(rec, CREW, n);
     fill_index(rec, rows, index);
 }
 

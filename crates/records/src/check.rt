@@ -13,10 +13,10 @@ use crate::cover::all_covered;
 use crate::head::is_headed;
 use indexes::Index;
 use limits::{limits_kept, rows_within};
-use mining::mine;
+use mining::{Candidates, mine};
 use rows_check::rows_match;
 use sets::Set128;
-use tables::{CREW, Record, STANDING, Table128, crew_rows, load};
+use tables::{CREW, Record, STANDING, Table128, as_rows, load};
 
 // Whether the header and the crew rows keep the limits, which are judged before any loop runs by them.
 fn within(rec: &Record) -> bool
@@ -24,7 +24,7 @@ fn within(rec: &Record) -> bool
 {
     let n = rec[0];
     let m = rec[1];
-    limits_kept(n, m) && rows_within(crew_rows(rec, CREW, n as usize), m as usize)
+    limits_kept(n, m) && rows_within(as_rows(rec, CREW, n as usize), m as usize)
 }
 
 // Whether a record that is in order before its rows covers its grants and has the rows of its building. The index and the immediate seniors made on
@@ -49,14 +49,14 @@ pub fn is_sound(rec: &Record, index: &mut Index, seniors: &mut Table128) -> bool
         return false;
     }
     let n = rec[0] as usize;
-    let mut table = [0u64; 512];
-    let Some(c) = mine(crew_rows(rec, CREW, n), &mut table) else {
+    let mut found = Candidates::none();
+    let Some(c) = mine(as_rows(rec, CREW, n), &mut found) else {
         return false;
     };
     if !load(rec, STANDING).is_subset(Set128::below(c)) {
         return false;
     }
-    if !is_headed(rec, &table, c) {
+    if !is_headed(rec, &found) {
         return false;
     }
     matches(rec, index, seniors)

@@ -1,5 +1,5 @@
 // Whether each grant is covered, user by user.
-ghost use Rattle.std.specs.Prelude.{◌≡◌, List, ℕ, ◌≤◌, ◌<◌, length, get_or};
+ghost use Rattle.std.specs.Prelude.{◌≡◌, List, ℕ, ◌≤◌, ◌<◌, get_or};
 ghost use Rattle.sets.specs.Held.{set_of};
 ghost use Rattle.model.specs.Coverage.{all_covered};
 ghost use Rattle.model.specs.Lists.{set_at};
@@ -7,26 +7,24 @@ ghost use Rattle.model.specs.State.{State, roles_of};
 ghost use Rattle.indexes.specs.Index.{LowerRoles, Indexed};
 ghost use Rattle.indexes.specs.Tables.{Source, SourceOf};
 ghost use Rattle.records.specs.Records.{user_roles, each_grant_covered};
-ghost use Rattle.tables.specs.Tables.{table256_length};
 
 use hierarchy::{less, maximal_of};
 use indexes::Index;
 use sets::{Set128, Set256, highest_item};
-use tables::{CREW, PERMISSIONS, Record, SETS, STANDING, load};
+use tables::{CREW, Record, STANDING, Table256, candidate_sets, load};
 
 // Whether the standing roles of a user hold all of the user's row. Where the row itself stands, it has the highest number of them, and nothing else is
 // asked. Otherwise those that lie below no other hold all that the rest do.
-fn user_covered(table: &[u64], index: &Index, roles: Set128, row: Set256) -> bool
-    requires table_len { length table.now ≡ table256_length }
-    ensures { (st : State) (crew : List ℕ) (n c u : ℕ) → Source st crew n table.now c → LowerRoles (roles_of st) index.now → u < n → set_of row ≡ get_or st.rows u 0 → set_of roles ≡ user_roles st u → result ≡ each_grant_covered st u }
+fn user_covered(sets: &Table256, index: &Index, roles: Set128, row: Set256) -> bool
+    ensures { (st : State) (crew : List ℕ) (n c u : ℕ) → Source st crew n sets.now c → LowerRoles (roles_of st) index.now → u < n → set_of row ≡ get_or st.rows u 0 → set_of roles ≡ user_roles st u → result ≡ each_grant_covered st u }
 {
     if roles.is_empty() {
         return row.is_empty();
     }
-    if load(table, 4 * highest_item(roles)) == row {
+    if load(sets, 4 * highest_item(roles)) == row {
         return true;
     }
-    less(table, row, maximal_of(&index.lower, roles)).is_empty()
+    less(sets, row, maximal_of(&index.lower, roles)).is_empty()
 }
 
 // Whether those of user u do.
@@ -36,7 +34,7 @@ fn grants_covered(rec: &Record, index: &Index, standing: Set128, u: usize) -> bo
 {
     let own = load(&index.roles, 2 * u).intersection(standing);
     let row = load(rec, CREW + 4 * u);
-    user_covered(&rec[SETS..PERMISSIONS], index, own, row)
+    user_covered(candidate_sets(rec), index, own, row)
 }
 
 // Whether the standing roles cover each grant.

@@ -5,7 +5,6 @@ use Rattle.std.specs.Prelude.{List, ℕ, eqb, leb, length, replicate}
 use Rattle.sets.specs.Truth.{when◌then◌else◌}
 use Rattle.model.specs.Lists.{rows_at}
 use Rattle.model.specs.Candidates.{candidates}
-use Rattle.text_lines.specs.Format.{crew_text}
 use Rattle.text_crew.specs.Reader.{buffer_length, read_crew}
 use Rattle.text_roles.specs.Lines.{refused_text}
 
@@ -15,7 +14,3 @@ handed_back text =
     when eqb a.code 0
     then when leb (length (candidates (rows_at a.n a.words 0))) 128 then text else refused_text 4
     else refused_text a.code
-
--- the same of a crew list that was read: its text, where it has at most 128 candidates
-unfoldable pub back_from : ℕ → ℕ → List ℕ → List ℕ
-back_from n m rows = when leb (length (candidates rows)) 128 then crew_text n m rows else refused_text 4

@@ -9,7 +9,7 @@ ghost use Rattle.rows.specs.Partway.{Partway, Target};
 use hierarchy::{juniors_of, permissions_of};
 use indexes::Index;
 use sets::Set128;
-use tables::{JUNIORS, PERMISSIONS, Record, SETS, store};
+use tables::{JUNIORS, PERMISSIONS, Record, candidate_sets, store};
 
 // Those of role i.
 pub fn rewrite_upper(rec: &mut Record, index: &Index, standing: Set128, i: usize)
@@ -17,7 +17,7 @@ pub fn rewrite_upper(rec: &mut Record, index: &Index, standing: Set128, i: usize
     ensures { (old : RoleRows) (st : State) (s p t : ℕ) → Target st (set_of standing) index.now → Partway old st s p t rec.old → Partway old st (s ∖ single i) (p ∖ single i) t rec.new }
 {
     let juniors = juniors_of(&index.lower, standing, i);
-    let permissions = permissions_of(&rec[SETS..PERMISSIONS], juniors, standing, i);
+    let permissions = permissions_of(candidate_sets(rec), juniors, standing, i);
     store(rec, JUNIORS + 2 * i, juniors);
     store(rec, PERMISSIONS + 4 * i, permissions);
 }

@@ -1,4 +1,4 @@
-ghost use Rattle.std.specs.Prelude.{◌≡◌, ◌↔◌, ℕ, ◌≤◌, get_or};
+ghost use Rattle.std.specs.Prelude.{◌≡◌, ◌↔◌, ◌≤◌, get_or};
 ghost use Rattle.std.proofs.Math.Bool.{So};
 ghost use Rattle.model.specs.Record.{built, Limits};
 ghost use Rattle.model.specs.State.{State, roles_of};
@@ -12,7 +12,8 @@ use crate::upper::uppers_match;
 use columns::fill_columns;
 use indexes::Index;
 use tables::{
-    JUNIORS, LENGTH, MEMBERS, PERMISSIONS, Record, STANDING, Table128, clear, load, zeros,
+    JUNIORS, LENGTH, MEMBERS, PERMISSIONS, Record, STANDING, Table128, clear, immediate_juniors,
+    load, zeros,
 };
 
 // Whether there is nothing behind the rows of c roles.
@@ -40,6 +41,6 @@ pub fn rows_match(rec: &Record, index: &Index, seniors: &mut Table128) -> bool
         return false;
     }
     clear(seniors);
-    fill_columns(&rec[JUNIORS..LENGTH], c, c, seniors);
+    fill_columns::<2>(immediate_juniors(rec), c, c, seniors);
     lowers_match(rec, index, seniors, standing, c)
 }

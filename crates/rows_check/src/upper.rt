@@ -9,7 +9,7 @@ ghost use Rattle.rows_check.specs.Held.{UpperHeld};
 use hierarchy::{juniors_of, permissions_of};
 use indexes::Index;
 use sets::Set128;
-use tables::{JUNIORS, PERMISSIONS, Record, SETS, load};
+use tables::{JUNIORS, PERMISSIONS, Record, candidate_sets, load};
 
 // Those of role k.
 fn upper_matches(rec: &Record, index: &Index, standing: Set128, k: usize) -> bool
@@ -20,7 +20,7 @@ fn upper_matches(rec: &Record, index: &Index, standing: Set128, k: usize) -> boo
     if load(rec, JUNIORS + 2 * k) != juniors {
         return false;
     }
-    let permissions = permissions_of(&rec[SETS..PERMISSIONS], juniors, standing, k);
+    let permissions = permissions_of(candidate_sets(rec), juniors, standing, k);
     load(rec, PERMISSIONS + 4 * k) == permissions
 }
 

@@ -1,23 +1,24 @@
 -- Emptiness, equality, order and count of sets held in lists of words, for any number of words.
 -- Assumes nothing.
-use mathlib.Core.Path.{◌≡◌, refl, sym, ◌∙◌, ap₂}
-use mathlib.Core.Bool.{Bool, false}
+use mathlib.Core.Path.{◌≡◌, sym, ◌∙◌, ap}
 use mathlib.Core.List.{List, [], ◌∷◌}
-use mathlib.Core.Logic.{◌↔◌}
-use Prim.Native.Nat.{ℕ, suc, ◌+◌, ◌*◌, ◌^◌, ◌<◌}
-use native.Mathlib.Nat.{suc_inj}
+use mathlib.Core.Logic.{◌↔◌, ◌≢◌}
+use Prim.Native.Nat.{ℕ, zero, suc, ◌+◌, ◌*◌, ◌^◌, ◌≤◌, ◌<◌}
+use native.Mathlib.Nat.{suc_inj, zero-add, add-zero, add_assoc, add_comm}
 use native.Mathlib.Omega.{arith}
-use borrow.Author.Tests.{ne_eqb, le-ltb}
-use lib.Dec.{eqb, ltb}
+use lib.Dec.{eqb}
 use lib.Arith.{lt_of_le-ne}
 use lib.Bits.{bit_xor, xor_self, and_le_l, and_le_r, xor_add_and}
-use lib.Count.{ones, ones_cat}
-use lib.ListN.{length}
-use Rattle.sets.specs.Truth.{when◌then◌else◌}
+use lib.Count.{ones, ones_cat, ones-le}
+use lib.ListN.{length, get_or}
+use Rattle.std.specs.Prelude.{fold, sum_by}
+use Rattle.std.specs.Ordering.{nat_cmp}
+use Rattle.std.proofs.Common.{Equal}
+use Rattle.std.proofs.lemmas.Bool.Decides.{nat_tests}
 use Rattle.sets.specs.Sets.{◌∩◌, ◌∖◌}
 use Rattle.sets.specs.Words.{value}
-use Rattle.sets.proofs.Truth.{same_test, eqb_iff, ltb_iff, equal_or, when-true, when-false}
-use Rattle.sets.proofs.Words.{Words}
+use Rattle.sets.proofs.Truth.{same_test, either, eqb_iff}
+use Rattle.sets.proofs.Words.{Words, value_lt, same_words}
 
 -- ---- equality
 
@@ -33,56 +34,56 @@ pub ∖-none : (a b : ℕ) → (a ∖ b ≡ 0) ↔ (a ∩ b ≡ a)
 unfolding ◌∖◌
 ∖-none a b = let r = xor_none a (a ∩ b) in (λ e. sym (r.0 e), λ e. r.1 (sym e))
 
--- ---- comparison, from the highest word down
+-- ---- order: the highest word in which they differ decides
 
--- the highest words that differ decide, and t where none do
-abbrev pub less_from : Bool → List ℕ → List ℕ → Bool
-less_from t [] ys = t
-less_from t (x ∷ xs) [] = t
-less_from t (x ∷ xs) (y ∷ ys) = less_from (when eqb x y then t else ltb x y) xs ys
+-- the words after word j are the same
+abbrev pub SameAfter : ℕ → List ℕ → List ℕ → Type 0
+SameAfter j xs ys = (k : ℕ) → j < k → k < length xs → get_or xs k 0 ≡ get_or ys k 0
 
-order_same : (a b c d : ℕ) → (a < b) ↔ (c < d) → ltb a b ≡ ltb c d
-order_same a b c d k =
-    same_test (ltb a b) (ltb c d) (λ h. (ltb_iff c d).1 (k.0 ((ltb_iff a b).0 h))) (λ h. (ltb_iff a b).1 (k.1 ((ltb_iff c d).0 h)))
-
--- the numbers A and B, of the words x and y and what stands above them
-less-step : (t : Bool) (X Y x y A B : ℕ) → x < 2 ^ 64 → y < 2 ^ 64 → A ≡ X * 2 ^ 64 + x → B ≡ Y * 2 ^ 64 + y
-    → (when eqb X Y then (when eqb x y then t else ltb x y) else ltb X Y) ≡ (when eqb A B then t else ltb A B)
-less-step t X Y x y A B hx hy ea eb =
-    equal_or X Y
-    (λ (e : X ≡ Y).
-    let p : eqb x y ≡ eqb A B = test_same x y A B (λ (h : x ≡ y). omega arith, λ (h : A ≡ B). omega arith) in
-    let q : ltb x y ≡ ltb A B = order_same x y A B (λ (h : x < y). omega arith, λ (h : A < B). omega arith) in
-    when-true (eqb X Y) (when eqb x y then t else ltb x y) (ltb X Y) ((eqb_iff X Y).1 e) ∙ ap₂ (λ (u v : Bool). when u then t else v) p q)
-    (λ d.
-    let q : ltb X Y ≡ ltb A B = order_same X Y A B (λ (h : X < Y). omega arith, λ (h : A < B). lt_of_le-ne (omega arith) d) in
-    when-false (eqb X Y) (when eqb x y then t else ltb x y) (ltb X Y) (ne_eqb X Y d)
-    ∙ q ∙ sym (when-false (eqb A B) t (ltb A B) (ne_eqb A B (λ (h : A ≡ B). d (omega arith)))))
-
-pub value-less : (t : Bool) (xs ys : List ℕ) → Words xs → Words ys → length xs ≡ length ys
-    → less_from t xs ys ≡ (when eqb (value xs) (value ys) then t else ltb (value xs) (value ys))
+top_less : (xs ys : List ℕ) → Words xs → Words ys → length xs ≡ length ys → (j : ℕ) → j < length xs → SameAfter j xs ys → get_or xs j 0 < get_or ys j 0 → value xs < value ys
 unfolding value
-value-less t [] [] hx hy e = sym (when-true (eqb 0 0) t (ltb 0 0) refl)
-value-less t [] (y ∷ ys) hx hy e = absurd (omega arith)
-value-less t (x ∷ xs) [] hx hy e = absurd (omega arith)
-value-less t (x ∷ xs) (y ∷ ys) hx hy e =
-    value-less (when eqb x y then t else ltb x y) xs ys (λ i. hx (suc i)) (λ i. hy (suc i)) (suc_inj e)
-    ∙ less-step t (value xs) (value ys) x y (value (x ∷ xs)) (value (y ∷ ys)) (hx 0) (hy 0) refl refl
+top_less [] ys hx hy e j l same d = absurd (omega arith)
+top_less (x ∷ xs) [] hx hy e j l same d = absurd (omega arith)
+top_less (x ∷ xs) (y ∷ ys) hx hy e zero l same d =
+    let above : value xs ≡ value ys = ap value (same_words xs ys (suc_inj e) (λ k q. same (suc k) (omega arith) (omega arith))) in
+    omega arith
+top_less (x ∷ xs) (y ∷ ys) hx hy e (suc j) l same d =
+    let above : value xs < value ys = top_less xs ys (λ i. hx (suc i)) (λ i. hy (suc i)) (suc_inj e) j (omega arith) (λ k p q. same (suc k) (omega arith) (omega arith)) d in
+    let low : x < 2 ^ 64 = hx 0 in
+    omega arith
 
--- with `false` where all words are equal, it is the order of the numbers
-pub less_none : (a b : ℕ) → (when eqb a b then false else ltb a b) ≡ ltb a b
-less_none a b =
-    equal_or a b
-    (λ (e : a ≡ b). when-true (eqb a b) false (ltb a b) ((eqb_iff a b).1 e) ∙ sym (le-ltb a b (omega arith)))
-    (λ d. when-false (eqb a b) false (ltb a b) (ne_eqb a b d))
+-- zs are the words in which xs and ys differ, bit by bit
+module _ (n : ℕ) (xs ys zs : List ℕ) (hx : Words xs) (hy : Words ys) (ex : length xs ≡ n) (ey : length ys ≡ n) (told : (k : ℕ) → k < n → get_or zs k 0 ≡ bit_xor (get_or xs k 0) (get_or ys k 0)) where
+  alike : (k : ℕ) → k < n → get_or zs k 0 ≡ 0 → get_or xs k 0 ≡ get_or ys k 0
+  alike k l z = (xor_none (get_or xs k 0) (get_or ys k 0)).0 (sym (told k l) ∙ z)
 
--- ---- count
+  pub top_decides : (j : ℕ) → j < n → ((k : ℕ) → j < k → k < n → get_or zs k 0 ≡ 0) → (get_or zs j 0 ≡ 0 → ⊥) → nat_cmp (get_or xs j 0) (get_or ys j 0) ≡ nat_cmp (value xs) (value ys)
+  top_decides j l none there =
+      let d : get_or xs j 0 ≢ get_or ys j 0 = λ q. there (told j l ∙ (xor_none (get_or xs j 0) (get_or ys j 0)).1 q) in
+      either (get_or xs j 0) (get_or ys j 0)
+      (λ b. let r = top_less xs ys hx hy (ex ∙ sym ey) j (rw ex l) (λ k p q. let m : k < n = rw ex at q in alike k m (none k p m)) b in grind (arith, nat_tests, r, b))
+      (λ c.
+      let b : get_or ys j 0 < get_or xs j 0 = lt_of_le-ne c (λ (q : get_or ys j 0 ≡ get_or xs j 0). d (sym q)) in
+      let r = top_less ys xs hy hx (ey ∙ sym ex) j (rw ey l) (λ k p q. let m : k < n = rw ey at q in sym (alike k m (none k p m))) b in
+      grind (arith, nat_tests, r, b))
 
-abbrev pub count : List ℕ → ℕ
-count [] = 0
-count (w ∷ ws) = count ws + ones w
+  pub none_differ : ((k : ℕ) → k < n → get_or zs k 0 ≡ 0) → Equal ≡ nat_cmp (value xs) (value ys)
+  none_differ none =
+      let e : value xs ≡ value ys = ap value (same_words xs ys (ex ∙ sym ey) (λ k q. let m : k < n = rw ex at q in alike k m (none k m))) in
+      grind (arith, nat_tests, e)
 
-pub value-count : (ws : List ℕ) → Words ws → count ws ≡ ones (value ws)
+-- ---- count: summed word after word
+
+summed : (k : ℕ) (ws : List ℕ) → Words ws → fold (λ a w. a + ones w) k ws ≡ k + ones (value ws)
 unfolding value ones
-value-count [] h = refl
-value-count (w ∷ ws) h = rw (value-count ws (λ i. h (suc i))) (sym (ones_cat 64 (value ws) w (h 0)))
+summed k [] h = sym (add-zero k)
+summed k (w ∷ ws) h =
+    summed (k + ones w) ws (λ i. h (suc i)) ∙ add_assoc k (ones w) (ones (value ws))
+    ∙ ap (λ (x : ℕ). k + x) (add_comm (ones w) (ones (value ws)) ∙ sym (ones_cat 64 (value ws) w (h 0)))
+
+pub value-count : (ws : List ℕ) → Words ws → sum_by ones ws ≡ ones (value ws)
+value-count ws h = summed 0 ws h ∙ zero-add (ones (value ws))
+
+-- a set has no more items than its width
+pub count_le : (n : ℕ) (ws : List ℕ) → Words ws → length ws ≡ n → sum_by ones ws ≤ 64 * n
+count_le n ws h e = rw (value-count ws h, ← e) (ones-le (64 * length ws) (value ws) (value_lt ws h))

@@ -12,3 +12,4 @@ pub mod Made
 pub mod Held
 pub mod Walked
 pub mod Taken
+pub mod Asking

@@ -242,6 +242,11 @@ pub collect_iff : (n : ℕ) (f : ℕ → Bool) (i : ℕ) → So (has (collect n 
 collect_iff n f i =
     (λ t. let l = item_below n (collect n f) i (collect_lt n f) t in (l, rw (has-collect n f i l) at t), λ k. rw (has-collect n f i k.0) k.1)
 
+-- the items below c
+pub first_iff : (n c i : ℕ) → c ≤ n → So (has (collect n (λ i. ltb i c)) i) ↔ (i < c)
+first_iff n c i l =
+    (λ t. (ltb_iff i c).0 ((collect_iff n (λ i. ltb i c) i).0 t).1, λ b. (collect_iff n (λ i. ltb i c) i).1 (omega arith, (ltb_iff i c).1 b))
+
 pub collect-none : (n : ℕ) (f : ℕ → Bool) → ((i : ℕ) → i < n → f i ≡ false) → collect n f ≡ 0
 collect-none n f h = empty_of (collect n f) (λ i t. let a = (collect_iff n f i).0 t in So-not (h i a.0) a.1)
 

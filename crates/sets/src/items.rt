@@ -1,5 +1,5 @@
 // The items of a set, one after another.
-ghost use Rattle.std.specs.Prelude.{◌≡◌, ◌≢◌, ◌*◌, ◌^◌, ◌<◌};
+ghost use Rattle.std.specs.Prelude.{◌≢◌, ◌*◌, ◌^◌, ◌<◌};
 ghost use Rattle.std.specs.Int.Count.{ones};
 ghost use Rattle.std.specs.Iterator.{at_most};
 ghost use Rattle.sets.specs.Extremes.{LowestItem, HighestItem};

@@ -7,4 +7,4 @@ mod word;
 
 pub use items::{Items, highest_item, lowest_item};
 pub use set::{Set, Set128, Set256};
-pub use word::{Place, bit_at, count_of, highest_or, less_or, mask_below, place_of, with_bit};
+pub use word::{Place, bit_at, count_of, mask_below, place_of, with_bit};

@@ -1,6 +1,7 @@
 // A set of items, in as many words as its type says.
-ghost use Rattle.std.specs.Prelude.{◌≡◌, ◌*◌, ◌^◌, ◌≤◌, ◌<◌, eqb, ltb};
+ghost use Rattle.std.specs.Prelude.{◌≡◌, ℕ, ◌*◌, ◌^◌, ◌<◌, eqb, ltb, get_or};
 ghost use Rattle.std.specs.Int.Count.{ones};
+ghost use Rattle.std.specs.Ordering.{nat_cmp};
 ghost use Rattle.sets.specs.Extremes.{highest, lowest};
 ghost use Rattle.sets.specs.Held.{set_of};
 ghost use Rattle.sets.specs.Sets.{has, ◌∩◌, ◌∪◌, ◌∖◌, single, subset, proper_subset, collect};
@@ -9,7 +10,9 @@ ghost use Rattle.sets.specs.Walks.{FirstItem, LastItem};
 ghost use Rattle.sets.specs.Words.{value, word};
 
 use crate::items::Items;
-use crate::word::{bit_at, count_of, highest_or, less_or, mask_below, place_of};
+use crate::word::{bit_at, count_of, mask_below, place_of};
+use std::array;
+use std::cmp::Ordering;
 
 // A set of items below 64 WORDS.
 #[derive(Clone, Copy, PartialEq, Eq)]
@@ -39,22 +42,18 @@ impl<const WORDS: usize> Set<WORDS> {
     pub fn only(i: usize) -> Self
         ensures { set_of result ≡ (when ltb i (64 * WORDS) then single i else 0) }
     {
-        let mut words = [0; WORDS];
-        for j in 0..WORDS {
-            words[j] = bit_at(i, j);
+        Self {
+            words: array::from_fn(|j| bit_at(i, j)),
         }
-        Self { words }
     }
 
     // All items below n.
     pub fn below(n: usize) -> Self
         ensures { set_of result ≡ collect (64 * WORDS) (λ i. ltb i n) }
     {
-        let mut words = [0; WORDS];
-        for j in 0..WORDS {
-            words[j] = mask_below(n, j.saturating_mul(64));
+        Self {
+            words: array::from_fn(|j| mask_below(n, j.saturating_mul(64))),
         }
-        Self { words }
     }
 
     // Word j; past the last there are no items.
@@ -84,31 +83,39 @@ impl<const WORDS: usize> Set<WORDS> {
         self.difference(Self::only(i))
     }
 
-    pub fn intersection(mut self, other: Self) -> Self
+    // Each word made of those of both.
+    fn wordwise<F: Fn(u64, u64) -> u64>(self, other: Self, f: F) -> Self
+        requires callable { (x y : ℕ) → F.pre f x y }
+        ensures { (h : ℕ → ℕ → ℕ) → ((x y t : ℕ) → F.post f x y t → t ≡ h x y) → (j : ℕ) → j < WORDS → get_or result.words j 0 ≡ h (get_or self.entry.words j 0) (get_or other.entry.words j 0) }
+    {
+        let a = self.words;
+        let b = other.words;
+        Self {
+            words: array::from_fn(
+                |j|
+                    requires { (j < WORDS) × ((x y : ℕ) → F.pre f x y) }
+                    ensures { F.post f (get_or a j 0) (get_or b j 0) result }
+                { f(a[j], b[j]) },
+            ),
+        }
+    }
+
+    pub fn intersection(self, other: Self) -> Self
         ensures { set_of result ≡ set_of self.entry ∩ set_of other.entry }
     {
-        for j in 0..WORDS {
-            self.words[j] &= other.words[j];
-        }
-        self
+        self.wordwise(other, |x, y| x & y)
     }
 
-    pub fn union(mut self, other: Self) -> Self
+    pub fn union(self, other: Self) -> Self
         ensures { set_of result ≡ set_of self.entry ∪ set_of other.entry }
     {
-        for j in 0..WORDS {
-            self.words[j] |= other.words[j];
-        }
-        self
+        self.wordwise(other, |x, y| x | y)
     }
 
-    pub fn difference(mut self, other: Self) -> Self
+    pub fn difference(self, other: Self) -> Self
         ensures { set_of result ≡ set_of self.entry ∖ set_of other.entry }
     {
-        for j in 0..WORDS {
-            self.words[j] &= !other.words[j];
-        }
-        self
+        self.wordwise(other, |x, y| x & !y)
     }
 
     pub fn is_empty(self) -> bool
@@ -129,26 +136,28 @@ impl<const WORDS: usize> Set<WORDS> {
         self.is_subset(other) & (self != other)
     }
 
-    // As numbers: a word decides before those below it.
+    // As numbers: the highest word in which they differ decides.
+    pub fn compare(self, other: Self) -> Ordering
+        ensures { result ≡ nat_cmp (set_of self.entry) (set_of other.entry) }
+    {
+        let differ = self.wordwise(other, |x, y| x ^ y);
+        match differ.words.iter().rposition(|w| *w != 0) {
+            None => Ordering::Equal,
+            Some(j) => self.words[j].cmp(&other.words[j]),
+        }
+    }
+
     pub fn less(self, other: Self) -> bool
         ensures { result ≡ ltb (set_of self.entry) (set_of other.entry) }
     {
-        let mut less = false;
-        for j in 0..WORDS {
-            less = less_or(self.words[j], other.words[j], less);
-        }
-        less
+        self.compare(other).is_lt()
     }
 
     pub fn count(self) -> usize
         requires { 64 * WORDS < 2 ^ 64 }
         ensures { result ≡ ones (set_of self.entry) }
     {
-        let mut count = 0;
-        for w in &self.words {
-            count += count_of(*w);
-        }
-        count
+        self.words.iter().map(|w| count_of(*w)).sum()
     }
 
     pub fn lowest(self) -> Option<usize>
@@ -156,12 +165,8 @@ impl<const WORDS: usize> Set<WORDS> {
         ensures value { result ≡ lowest (64 * WORDS) (set_of self.entry) }
         ensures told { FirstItem (64 * WORDS) (set_of self.entry) result }
     {
-        for j in 0..WORDS {
-            if self.words[j] != 0 {
-                return Some(64 * j + u64::trailing_zeros(self.words[j]) as usize);
-            }
-        }
-        None
+        let j = self.words.iter().position(|w| *w != 0)?;
+        Some(64 * j + u64::trailing_zeros(self.words[j]) as usize)
     }
 
     pub fn highest(self) -> Option<usize>
@@ -169,11 +174,8 @@ impl<const WORDS: usize> Set<WORDS> {
         ensures value { result ≡ highest (64 * WORDS) (set_of self.entry) }
         ensures told { LastItem (64 * WORDS) (set_of self.entry) result }
     {
-        let mut highest = None;
-        for j in 0..WORDS {
-            highest = highest_or(self.words[j], 64 * j, highest);
-        }
-        highest
+        let j = self.words.iter().rposition(|w| *w != 0)?;
+        Some(64 * j + (63 - u64::leading_zeros(self.words[j]) as usize))
     }
 
     // From the lowest up.

@@ -6,7 +6,7 @@ use Prim.Native.Nat.{ℕ, zero, suc, ◌+◌, ◌-◌, ◌*◌, ◌/◌, ◌≤�
 use native.Mathlib.Nat.{not-suc-le-zero, le_of_suc-le-suc, zero-add}
 use native.Mathlib.Omega.{arith}
 use lib.ListN.{length, get_or, take, drop, length-drop, length-map, get_or-append}
-use lib.Seq.{ext_get_or, get_or-drop, get_or-append-add}
+use lib.Seq.{ext_get_or, length-take-le, get_or-take, get_or-drop, get_or-append-add}
 use Rattle.std.specs.List.{flat_map}
 use Rattle.std.specs.Simd.{first_chunks}
 use Rattle.std.proofs.lemmas.List.{get_or-map}
@@ -37,24 +37,27 @@ chunk (suc n) ws (suc u) h l =
     chunk n (drop 4 ws) u (le_of_suc-le-suc h) (rw (length-drop 4 ws) (omega arith))
     ∙ set_at_same 4 (drop 4 ws) ws (4 * u) (4 * suc u) (λ j b. get_or-drop 4 ws (4 * u + j) 0 ∙ ap (λ (i : ℕ). get_or ws i 0) (let e : 4 + (4 * u + j) ≡ 4 * suc u + j = omega arith in e))
 
--- the chunks of the words are the rows
+-- the first chunks of the words from a place on are the rows there
 module _ (n at : ℕ) (ws : List ℕ) (h : at + 4 * n ≤ length ws) where
-  abbrev part : List ℕ
-  part = take (at + 4 * n - at) (drop at ws)
+  abbrev rest : List ℕ
+  rest = take (length ws - at) (drop at ws)
 
-  long : length part ≡ 4 * n
-  long = length-part ws at (at + 4 * n) h ∙ (let e : at + 4 * n - at ≡ 4 * n = omega arith in e)
+  abbrev chunks : List (List ℕ)
+  chunks = first_chunks 4 (length (take (length ws - at) (drop at ws)) / 4) (take (length ws - at) (drop at ws))
 
-  pub chunked : rows_of (first_chunks 4 (length (take (at + 4 * n - at) (drop at ws)) / 4) (take (at + 4 * n - at) (drop at ws))) ≡ rows_at n ws at
+  many : n ≤ length rest / 4
+  many = let e = length-part ws at (length ws) (omega arith) in omega arith
+
+  size : length (take n chunks) ≡ n
+  size = length-take-le n chunks (rw (length-chunks (length rest / 4) rest) many)
+
+  pub chunked : rows_of (take n (first_chunks 4 (length (take (length ws - at) (drop at ws)) / 4) (take (length ws - at) (drop at ws)))) ≡ rows_at n ws at
   chunked =
-      let many : length part / 4 ≡ n = rw long (omega arith) in
-      rw many
-      (let size : length (rows_of (first_chunks 4 n part)) ≡ n = length-rows_of (first_chunks 4 n part) ∙ length-chunks n part in
-      ext_get_or 0 (rows_of (first_chunks 4 n part)) (rows_at n ws at) (size ∙ sym (length-rows_at n ws at))
+      ext_get_or 0 (rows_of (take n chunks)) (rows_at n ws at) (length-rows_of (take n chunks) ∙ size ∙ sym (length-rows_at n ws at))
       (λ u b.
-      let l : u < n = rw size at b in
-      row_of (first_chunks 4 n part) u (rw (length-chunks n part) l) ∙ chunk n part u l (rw long (omega arith))
-      ∙ set_at_part 4 at (at + 4 * n - at) ws (4 * u) (omega arith) ∙ sym (get_d_rows_at n ws at u l)))
+      let l : u < n = rw (length-rows_of (take n chunks) ∙ size) at b in
+      row_of (take n chunks) u (rw size l) ∙ ap value (get_or-take n chunks u [] l) ∙ chunk (length rest / 4) rest u (omega (arith, many)) (omega arith)
+      ∙ set_at_part 4 at (length ws - at) ws (4 * u) (omega arith) ∙ sym (get_d_rows_at n ws at u l))
 
 -- ---- rows written as words
 

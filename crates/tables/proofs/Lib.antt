@@ -2,8 +2,7 @@ pub mod Stores
 pub mod Tables
 pub mod Parts
 pub mod Rows
-pub mod Halving
+pub mod Searching
 pub mod Moving
 pub mod Clearing
-pub mod Asking
 pub mod Chunks

@@ -8,12 +8,13 @@ use native.Mathlib.Omega.{arith}
 use lib.ListN.{length, get_or, set, take, drop, length-set}
 use lib.Seq.{get_or-set_same, get_or-set_other}
 use Rattle.sets.proofs.Truth.{either, equal_or}
+use Rattle.sets.proofs.Words.{Words}
 use Rattle.model.specs.Lists.{set_at, rows_at}
 use Rattle.model.proofs.Lists.{length-rows_at, set_at_same}
 use Rattle.stores.specs.Stores.{put_at}
 use Rattle.tables.specs.Stores.{words_of}
 use Rattle.stores.proofs.Stores.{put_at_above}
-use Rattle.tables.proofs.Stores.{length-words_of, stored_back, stored_before, stored_after}
+use Rattle.tables.proofs.Stores.{length-words_of, stored_back, stored_before, stored_after, stored_words}
 use Rattle.tables.specs.Search.{Inserts}
 use Rattle.tables.proofs.Rows.{row_at, rows_are, spliced_length, spliced_before, spliced_at, spliced_after}
 
@@ -25,6 +26,7 @@ pub record Moved (t₀ : List ℕ) (n at : ℕ) (t : List ℕ) (i : ℕ) : Type 
   pub low : (w : ℕ) → w < i → get_or t w 0 ≡ get_or t₀ w 0
   pub high : (w : ℕ) → i ≤ w + 4 → w < 4 * n → get_or t (w + 4) 0 ≡ get_or t₀ w 0
   pub rest : (w : ℕ) → 4 * (n + 1) ≤ w → get_or t w 0 ≡ get_or t₀ w 0
+  pub words : Words t₀ → Words t
 
 pub moved_none : (t : List ℕ) (n at : ℕ) → at ≤ n → Moved t n at t (4 * n + 4)
 moved_none t n at h =
@@ -35,6 +37,7 @@ moved_none t n at h =
       low = λ w l. refl;
       high = λ w l k. let z : ⊥ = omega arith in absurd z;
       rest = λ w l. refl;
+      words = λ f. f;
     }
 
 module _ {t₀ : List ℕ} {n at : ℕ} {t : List ℕ} {i : ℕ} (fits : 4 * (n + 1) ≤ length t₀) (m : Moved t₀ n at t i) where
@@ -55,6 +58,10 @@ module _ {t₀ : List ℕ} {n at : ℕ} {t : List ℕ} {i : ℕ} (fits : 4 * (n 
             ∙ m.low w (omega arith))
             (λ d. away (w + 4) d ∙ m.high w (omega arith) k);
         rest = λ w l. away w (λ e. let z : ⊥ = omega (arith, m.to) in z) ∙ m.rest w l;
+        words = λ f w.
+            equal_or w (i - 1)
+            (λ (e : w ≡ i - 1). rw (e, get_or-set_same t (i - 1) v 0 (omega (arith, m.size, m.to))) (m.words f (i - 1 - 4)))
+            (λ d. rw (away w d) (m.words f w));
       }
 
   module _ (x : ℕ) (b : x < 2 ^ 256) (h : at ≤ n) (last : i ≤ 4 * at + 4) where
@@ -102,6 +109,7 @@ module _ {t₀ : List ℕ} {n at : ℕ} {t : List ℕ} {i : ℕ} (fits : 4 * (n 
               rows_are (n + 1) stored (take at old ++ (x ∷ drop at old))
               (spliced_length x old at at_old ∙ ap suc (length-rows_at n t₀ 0) ∙ sym (add-one n)) each;
           rest = λ w l. put_at_above t (i - 4) (words_of 4 x) w (rw (length-words_of 4 x) (omega (arith, first))) ∙ m.rest w l;
+          words = λ f w. stored_words t (i - 4) 4 x (omega (arith, first, m.size)) (m.words f) w;
         }
 
     pub inserted : Inserts n at x t₀ (put_at t (4 * at) (words_of 4 x))

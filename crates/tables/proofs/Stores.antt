@@ -7,7 +7,8 @@ use native.Mathlib.Omega.{arith}
 use lib.ListN.{length, get_or, take, drop}
 use Rattle.std.proofs.Math.Seq.{drop-cons}
 use Rattle.sets.specs.Words.{value, word}
-use Rattle.sets.proofs.Words.{same_words, word_value}
+use Rattle.sets.proofs.Truth.{either}
+use Rattle.sets.proofs.Words.{Words, same_words, word_value, word_lt}
 use Rattle.sets.proofs.Written.{Arr}
 use Rattle.model.specs.Lists.{elems, set_at}
 use Rattle.model.proofs.Lists.{length-tabulate, get_d_tabulate, set_at_words, set_at_same}
@@ -37,6 +38,17 @@ stored_before l at w s b v h = set_at_same v (put_at l at (words_of w s)) l b b 
 pub stored_after : (l : List ℕ) (at w s b v : ℕ) → at + w ≤ b → set_at v (put_at l at (words_of w s)) b ≡ set_at v l b
 stored_after l at w s b v h =
     set_at_same v (put_at l at (words_of w s)) l b b (λ j lj. put_at_above l at (words_of w s) (b + j) (rw (length-words_of w s) (omega arith)))
+
+-- words stay words
+pub stored_words : (l : List ℕ) (at w s : ℕ) → at + w ≤ length l → Words l → Words (put_at l at (words_of w s))
+stored_words l at w s h f i =
+    either i at (λ b. rw (put_at-below l at (words_of w s) i b) (f i))
+    (λ b.
+    either i (at + w)
+    (λ c.
+    let e : at + (i - at) ≡ i = omega arith in
+    rw (← e) (rw (stored_word l at w s (i - at) h (omega arith)) (word_lt s (i - at))))
+    (λ c. rw (put_at_above l at (words_of w s) i (rw (length-words_of w s) c)) (f i)))
 
 -- ---- the code's own terms
 

@@ -15,7 +15,10 @@ ghost use Rattle.tables.specs.Stores.{words_of};
 ghost use Rattle.tables.specs.Tables.{ZeroFrom};
 
 pub use growing::{insert, search};
-pub use layout::{CREW, JUNIORS, LENGTH, MEMBERS, PERMISSIONS, Record, SETS, STANDING, Table128};
+pub use layout::{
+    CREW, JUNIORS, LENGTH, MEMBERS, PERMISSIONS, Record, SETS, STANDING, Table128, Table256,
+    candidate_sets, direct_members, direct_permissions, immediate_juniors,
+};
 use sets::Set;
 
 // The set whose words stand from place `at` on.
@@ -29,12 +32,12 @@ pub fn load<const WORDS: usize>(ws: &[u64], at: usize) -> Set<WORDS>
 }
 
 // The n rows of four words each that stand from place `at` on.
-pub fn crew_rows(ws: &[u64], at: usize, n: usize) -> &[[u64; 4]]
+pub fn as_rows(ws: &[u64], at: usize, n: usize) -> &[[u64; 4]]
     requires { at + 4 * n ≤ length ws.now }
     ensures value { rows_of result.now ≡ rows_at n ws.now at }
     ensures count { length result.now ≡ n }
 {
-    ws[at..at + 4 * n].as_chunks().0
+    &ws[at..].as_chunks().0[..n]
 }
 
 pub fn store<const WORDS: usize>(ws: &mut [u64], at: usize, s: Set<WORDS>)

@@ -5,18 +5,20 @@ mod unread;
 
 use std::io::Read;
 use streams::read_full;
+use text::Rest;
 use text_sets::{hexadecimal_set, read_hexadecimal};
 pub use unread::Unread;
 
 // A blank and 16 digits.
-#[tactic(auto, using(text_sets::proofs::Hexadecimals::hexadecimal_there))]
+#[tactic(auto, using(text_sets::proofs::Hexadecimals::digits_there))]
 fn next_number<R: Read>(from: &mut R) -> Result<u64, Unread> {
     let mut field = [0u8; 17];
-    if read_full(from, &mut field)? != 17 || field[0] != b' ' {
+    if read_full(from, &mut field)? != 17 {
         return Err(Unread::Line);
     }
-    read_hexadecimal(&field, 1, 16).ok_or(Unread::Line)?;
-    Ok(hexadecimal_set(&field, 1, 16).word(0))
+    let digits = Rest::of(&field).fixed(b" ").ok_or(Unread::Line)?;
+    read_hexadecimal(digits, 16).ok_or(Unread::Line)?;
+    Ok(hexadecimal_set(digits, 16).word(0))
 }
 
 // Fills the words with the numbers that come next.

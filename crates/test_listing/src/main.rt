@@ -2,27 +2,17 @@
 #![tactic(auto)]
 
 use std::io;
-use std::io::Write;
-use std::rt::Files;
 use test_support::next_file;
 
 const MOST_TEXTS: u64 = 1000;
 
-// A line with the file's name, and then its listing. Whether there is such a file.
-fn run<R: Files, W: Write>(files: &R, to: &mut W, number: u64) -> io::Result<bool> {
-    let Some(mut text) = next_file(files, to, number)? else {
-        return Ok(false);
-    };
-    listing::list_stream(&mut text, to)?;
-    Ok(true)
-}
-
 fn main(rt: HostRuntime) -> io::Result<()> {
     let mut out = rt.stdout();
     for number in 0..MOST_TEXTS {
-        if !run(&rt, &mut out, number)? {
+        let Some(mut text) = next_file(&rt, &mut out, number)? else {
             break;
-        }
+        };
+        listing::list_stream(&mut text, &mut out)?;
     }
     Ok(())
 }

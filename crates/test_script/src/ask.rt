@@ -1,11 +1,10 @@
 // What alters no record: the calls that read one, the reader and the writer of a crew text, and titles.
-use crate::answer::told;
-use crate::lent::{MOST_LENT, MOST_WORDS, lent_bytes, widened};
+use crate::lent::{MOST_LENT, MOST_WORDS};
 use panel::{panel_may, panel_quality, panel_read_crew, panel_write_crew};
 use std::io::{Read, Write};
 use streams::read_full;
 use test_input::{Unread, last_numbers};
-use test_support::{case, lent, text, widen};
+use test_support::{case, lent, pair_told, text, told, widen};
 
 const MOST_BYTES: usize = 4096;
 
@@ -34,10 +33,7 @@ fn read_bytes<R: Read, W: Write>(
     if read_full(from, crew)? != crew.len() {
         return Err(Unread::Line);
     }
-    let a = match panel_read_crew(crew, words) {
-        Ok(size) => [0, size.n, size.m],
-        Err(refusal) => [refusal.number(), 0, 0],
-    };
+    let a = pair_told(panel_read_crew(crew, words).map(|size| (size.n, size.m)));
     case(to, b"read", &[], &a, words)?;
     Ok(())
 }
@@ -78,8 +74,8 @@ fn write<R: Read, W: Write>(from: &mut R, to: &mut W, rec: &[u64]) -> Result<(),
     if MOST_LENT < count {
         return Err(Unread::Line);
     }
-    let mut space = lent_bytes();
-    let mut words = widened();
+    let mut space = [7u8; MOST_LENT];
+    let mut words = [0u64; MOST_LENT];
     write_bytes(to, rec, &mut space[..count], &mut words[..count])
 }
 

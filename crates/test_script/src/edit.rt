@@ -1,11 +1,10 @@
 // What alters the record: the calls that mine and edit, and a word put into it.
-use crate::answer::{number_alone, told};
 use crate::lent::MOST_WORDS;
 use crate::list::list;
 use panel::{panel_eliminate, panel_mine, panel_restore, panel_review, panel_strike};
 use std::io::{Read, Write};
 use test_input::{Unread, last_numbers, numbers};
-use test_support::{case, lent};
+use test_support::{case, lent, number_alone, pair_told, told};
 
 fn mine_words<R: Read, W: Write>(
     from: &mut R,
@@ -53,10 +52,8 @@ fn restore<R: Read, W: Write>(from: &mut R, to: &mut W, rec: &mut [u64]) -> Resu
 fn eliminate<R: Read, W: Write>(from: &mut R, to: &mut W, rec: &mut [u64]) -> Result<(), Unread> {
     let mut w = [0u64; 6];
     last_numbers(from, &mut w)?;
-    let a = match panel_eliminate(rec, w[0], w[1], w[2], w[3], w[4], w[5]) {
-        Ok(done) => [0, done.removed, done.examined],
-        Err(refusal) => [refusal.number(), 0, 0],
-    };
+    let done = panel_eliminate(rec, w[0], w[1], w[2], w[3], w[4], w[5]);
+    let a = pair_told(done.map(|done| (done.changed, done.examined)));
     case(to, b"eliminate", &w, &a, rec)?;
     Ok(())
 }
@@ -64,10 +61,8 @@ fn eliminate<R: Read, W: Write>(from: &mut R, to: &mut W, rec: &mut [u64]) -> Re
 fn review<R: Read, W: Write>(from: &mut R, to: &mut W, rec: &mut [u64]) -> Result<(), Unread> {
     let mut w = [0u64; 4];
     last_numbers(from, &mut w)?;
-    let a = match panel_review(rec, w[0], w[1], w[2], w[3]) {
-        Ok(done) => [0, done.restored, done.examined],
-        Err(refusal) => [refusal.number(), 0, 0],
-    };
+    let done = panel_review(rec, w[0], w[1], w[2], w[3]);
+    let a = pair_told(done.map(|done| (done.changed, done.examined)));
     case(to, b"review", &w, &a, rec)?;
     Ok(())
 }

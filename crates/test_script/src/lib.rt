@@ -19,7 +19,6 @@
 // Where a line is none of these the program says so and ends.
 #![tactic(auto)]
 
-mod answer;
 mod ask;
 mod edit;
 mod lent;

@@ -4,9 +4,8 @@
 ghost use Rattle.std.specs.Prelude.{◌≡◌, ◌≤◌, ◌<◌, true};
 
 use sets::{Set, Set256};
-use std::io;
 use std::io::Write;
-use test_support::{number, text};
+use std::{fmt, io};
 
 // What a line says of a set and of one that may hold it.
 #[derive(Clone, Copy)]
@@ -20,30 +19,31 @@ struct Row {
     less: bool,
 }
 
-fn flag<W: Write>(to: &mut W, f: bool) -> io::Result<()> {
-    number(to, u64::from(f))
-}
+// An item, or a dash where there is none.
+#[derive(Clone, Copy)]
+struct Item(Option<usize>);
 
-fn item<W: Write>(to: &mut W, i: Option<usize>) -> io::Result<()> {
-    match i {
-        Some(n) => number(to, n as u64),
-        None => text(to, b" -"),
+impl fmt::Display for Item {
+    fn fmt<W: fmt::Write>(&self, f: &mut fmt::Formatter<W>) -> fmt::Result {
+        match self.0 {
+            Some(i) => write!(f, "{i}"),
+            None => write!(f, "-"),
+        }
     }
 }
 
 fn print<W: Write>(to: &mut W, width: usize, i: usize, row: Row) -> io::Result<()> {
-    text(to, b"width")?;
-    number(to, width as u64)?;
-    number(to, i as u64)?;
-    text(to, b":")?;
-    flag(to, row.contains)?;
-    number(to, row.count as u64)?;
-    number(to, row.other_count as u64)?;
-    item(to, row.lowest)?;
-    item(to, row.other_highest)?;
-    flag(to, row.proper)?;
-    flag(to, row.less)?;
-    text(to, b"\n")
+    let contains = u64::from(row.contains);
+    let count = row.count;
+    let other_count = row.other_count;
+    let lowest = Item(row.lowest);
+    let other_highest = Item(row.other_highest);
+    let proper = u64::from(row.proper);
+    let less = u64::from(row.less);
+    writeln!(
+        to,
+        "width {width} {i}: {contains} {count} {other_count} {lowest} {other_highest} {proper} {less}"
+    )
 }
 
 fn case<const WORDS: usize, W: Write>(to: &mut W, i: usize) -> io::Result<()>
@@ -79,7 +79,6 @@ fn main(rt: HostRuntime) -> io::Result<()> {
     for i in [0, 63, 64, 127, 128, 255] {
         case::<4, _>(&mut out, i)?;
     }
-    text(&mut out, b"apart:")?;
-    flag(&mut out, apart(Set256::below(200), Set256::below(100)))?;
-    text(&mut out, b"\n")
+    let told = u64::from(apart(Set256::below(200), Set256::below(100)));
+    writeln!(out, "apart: {told}")
 }

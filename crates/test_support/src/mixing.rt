@@ -18,9 +18,5 @@ fn mix(d: u64) -> u64
 pub fn digest(ws: &[u64]) -> u64
     ensures { result ≡ digest_of ws.now }
 {
-    let mut d = START;
-    for i in 0..ws.len() {
-        d = mix(d ^ ws[i]);
-    }
-    d
+    ws.iter().fold(START, |d, w| mix(d ^ *w))
 }

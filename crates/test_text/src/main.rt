@@ -5,7 +5,8 @@
 use std::io;
 use std::io::Write;
 use streams::read_full;
-use test_support::{case, lent};
+use test_support::{case, lent, pair_told};
+use text::Rest;
 use text_sets::{hexadecimal_set, read_hexadecimal};
 
 const MOST_INPUT: usize = 65536;
@@ -14,19 +15,16 @@ const MOST_WORDS: usize = 600;
 
 const MOST_CASES: usize = 1000;
 
-#[tactic(auto, using(text_sets::proofs::Hexadecimals::hexadecimal_there))]
-fn number_at(input: &[u8], at: usize) -> usize {
-    match read_hexadecimal(input, at, 4) {
-        Some(_) => hexadecimal_set(input, at, 4).word(0) as usize,
+#[tactic(auto, using(text_sets::proofs::Hexadecimals::digits_there))]
+fn number(digits: Rest) -> usize {
+    match read_hexadecimal(digits, 4) {
+        Some(_) => hexadecimal_set(digits, 4).word(0) as usize,
         None => 0,
     }
 }
 
 fn run<W: Write>(to: &mut W, text: &[u8], words: &mut [u64]) -> io::Result<()> {
-    let a = match text_crew::read_crew(text, words) {
-        Ok(size) => [0, size.n, size.m],
-        Err(refusal) => [refusal.number(), 0, 0],
-    };
+    let a = pair_told(text_crew::read_crew(text, words).map(|size| (size.n, size.m)));
     case(to, b"read", &[], &a, words)
 }
 
@@ -35,8 +33,9 @@ fn run_case<W: Write>(to: &mut W, input: &[u8], at: usize) -> io::Result<usize> 
     if input.len() < 10 || input.len() - 10 < at {
         return Ok(input.len());
     }
-    let size = number_at(input, at);
-    let count = number_at(input, at + 5);
+    let head = Rest { text: input, at };
+    let size = number(head);
+    let count = number(head.skip(5));
     let start = at + 10;
     if input.len() - start < size || MOST_WORDS < count {
         return Ok(input.len());

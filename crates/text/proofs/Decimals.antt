@@ -137,4 +137,18 @@ pub length-decimal : (v : ℕ) → length (decimal v) ≤ 20
 unfolding decimal
 length-decimal v = few_digits 20 v
 
-pub ruleset length_laws = (length_short, length_long, length-decimal)
+-- by the power of ten that v reaches
+pub length_between : (k v : ℕ) → 10 ^ k ≤ v → v < 10 * 10 ^ k → v < 2 ^ 64 → length (decimal v) ≡ k + 1
+length_between zero v l h b = length_short v (omega arith)
+length_between (suc k) v l h b =
+    let p : 10 ^ suc k ≡ 10 ^ k * 10 = pow-suc 10 k in
+    let q : 0 < 10 ^ k = pow_pos k in
+    let r : length (decimal (v / 10)) ≡ k + 1 = length_between k (v / 10) (omega arith) (omega arith) (omega arith) in
+    let s : length (decimal v) ≡ length (decimal (v / 10)) + 1 = length_long v (omega arith) b in
+    omega arith
+  where
+    pow_pos : (j : ℕ) → 0 < 10 ^ j
+    pow_pos zero = omega arith
+    pow_pos (suc j) = let p : 10 ^ suc j ≡ 10 ^ j * 10 = pow-suc 10 j in omega (arith, pow_pos j)
+
+pub ruleset length_laws = (length_short, length_between, length-decimal)

@@ -3,3 +3,4 @@ pub mod Bytes
 pub mod Decimals
 pub mod Written
 pub mod Puts
+pub mod Rests

@@ -11,7 +11,7 @@ use lib.ListN.{length, get_or}
 use Rattle.sets.proofs.Truth.{either, equal_or}
 use Rattle.std.specs.Prelude.{Option, None}
 use Rattle.std.specs.Option.{option_map_or}
-use Rattle.text.specs.declared.decimal.Decimal.{Decimal}
+use Rattle.text.specs.Decimal.{Decimal}
 use Rattle.text.specs.Digits.{digit_byte, digit_of, digit_at}
 use Rattle.text.specs.Fixed.{holds, comma, line_end}
 use Rattle.text.specs.Decimal.{number, decimal_at, decimal}

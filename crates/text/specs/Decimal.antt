@@ -2,14 +2,18 @@
 -- Assumes nothing.
 use Rattle.std.specs.Prelude.{Bool, Option, Some, None, List, [], ◌∷◌, ◌++◌, ℕ, zero, suc, ◌+◌, ◌*◌, ◌/◌, ◌%◌, eqb, ltb}
 use Rattle.sets.specs.Truth.{when◌then◌else◌, isnt}
-use Rattle.text.specs.declared.decimal.Decimal.{Decimal}
 use Rattle.text.specs.Digits.{digit_byte, digit_at}
 
 -- a digit of a decimal stands at a place of the text
 unfoldable pub decimal_digit : List ℕ → ℕ → Bool
 decimal_digit text at = ltb (digit_at text at) 10
 
--- there is a decimal: its value, and the place after it
+-- a decimal's value, and the place after it
+pub record Decimal : Type 0 where
+  pub value : ℕ
+  pub next : ℕ
+
+-- there is a decimal
 abbrev pub number : ℕ → ℕ → Option Decimal
 number value next = Some (record { value = value; next = next })
 

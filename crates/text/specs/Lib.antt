@@ -1,3 +1,4 @@
 pub mod Digits
 pub mod Fixed
 pub mod Decimal
+pub mod Rest

@@ -1,9 +1,9 @@
 // One digit as a byte.
 ghost use Rattle.std.specs.Prelude.{◌≡◌, ◌<◌, MatchOption};
-ghost use Rattle.text.specs.Digits.{digit_at, digit_byte, digit_of};
+ghost use Rattle.text.specs.Digits.{digit_byte, digit_of};
 
 #[tactic(auto, using(crate::proofs::Digits::digit_laws))]
-fn digit_of(b: u8) -> Option<u64>
+pub fn digit_of(b: u8) -> Option<u64>
     ensures { MatchOption result (digit_of b ≡ 16) (λ d. (d < 16) × (d ≡ digit_of b)) }
 {
     match b {
@@ -11,14 +11,6 @@ fn digit_of(b: u8) -> Option<u64>
         b'a'..=b'f' => Some(u64::from(b - b'a') + 10),
         _ => None,
     }
-}
-
-// None past the end of the text too.
-#[tactic(auto, using(crate::proofs::Digits::digit_past), unfolding(crate::specs::Digits::digit_at))]
-pub fn digit_at(text: &[u8], at: usize) -> Option<u64>
-    ensures { MatchOption result (digit_at text.now at ≡ 16) (λ d. (d < 16) × (d ≡ digit_at text.now at)) }
-{
-    digit_of(*text.get(at)?)
 }
 
 #[tactic(auto, using(crate::proofs::Digits::byte_laws))]

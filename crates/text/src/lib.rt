@@ -5,8 +5,10 @@ mod decimal;
 mod digit;
 mod fixed;
 mod line;
+mod rest;
 
-pub use decimal::{Decimal, decimal_length, put_decimal, read_decimal};
-pub use digit::{digit_at, digit_byte};
-pub use fixed::{put_bytes, read_fixed, read_line_end};
+pub use decimal::{decimal_length, put_decimal};
+pub use digit::digit_byte;
+pub use fixed::put_bytes;
 pub use line::put_first_line;
+pub use rest::Rest;

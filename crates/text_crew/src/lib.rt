@@ -8,14 +8,15 @@ mod rows;
 
 use crate::rows::read_rows;
 use refusals::Refusal;
+use text::Rest;
 use text_lines::{Header, read_header};
 
-const BUFFER: usize = 512;
+pub const BUFFER: usize = 512;
 
 const LONGEST: usize = 16384;
 
 // A byte more, for who reads a text from elsewhere: so a longer one is noticed.
-pub const SPACE: usize = 16385;
+pub const SPACE: usize = LONGEST + 1;
 
 // How many users and permissions a crew list has.
 #[derive(Clone, Copy)]
@@ -36,27 +37,25 @@ pub fn read_crew(text: &[u8], rows: &mut [u64]) -> Result<CrewSize, Refusal>
         return Err(Refusal::Text);
     }
     let header = read_header(text)?;
-    fill(text, header, rows)
+    fill(text, header, rows.as_mut_array().unwrap())
 }
 
 // The rows go into words of their own, and from there to the buffer when the whole text is in order.
 #[tactic(auto, using(crate::proofs::Answers::rows_laws), unfolding(crate::specs::Reader::read_result))]
-fn fill(text: &[u8], header: Header, rows: &mut [u64]) -> Result<CrewSize, Refusal>
-    requires { (header.n ≤ 128) × (header.m ≤ 256) × (length rows.old ≡ 512) }
+fn fill(text: &[u8], header: Header, rows: &mut [u64; BUFFER]) -> Result<CrewSize, Refusal>
+    requires { (header.n ≤ 128) × (header.m ≤ 256) }
     ensures { read_result result rows.new ≡ after_rows text.now rows.old header.n header.m (rows_to text.now header.m header.next header.n) }
 {
     let mut words = [0u64; BUFFER];
-    let end = read_rows(
+    let rest = Rest {
         text,
-        header.next,
-        header.n as usize,
-        header.m as usize,
-        &mut words,
-    )?;
+        at: header.next,
+    };
+    let end = read_rows(rest, header.n as usize, header.m, &mut words)?;
     if end != text.len() {
         return Err(Refusal::Text);
     }
-    rows.copy_from_slice(&words);
+    *rows = words;
     Ok(CrewSize {
         n: header.n,
         m: header.m,

@@ -13,7 +13,7 @@ use Rattle.sets.specs.Truth.{◌and◌}
 use Rattle.sets.proofs.Truth.{by_test, reflect, when_cases}
 use Rattle.std.proofs.lemmas.Option.{none-some, same_Some}
 use Rattle.model.specs.State.{within_limits}
-use Rattle.text.specs.declared.decimal.Decimal.{Decimal}
+use Rattle.text.specs.Decimal.{Decimal}
 use Rattle.text.specs.Fixed.{holds, comma, line_end}
 use Rattle.text.specs.Decimal.{number, decimal_at}
 use Rattle.text_sets.specs.Hexadecimal.{hexadecimal_at}

@@ -5,9 +5,8 @@ use Rattle.sets.specs.Truth.{◌and◌, when◌then◌else◌}
 use Rattle.model.specs.State.{within_limits}
 use Rattle.refusals.specs.declared.Refusal.{Refusal}
 use Rattle.refusals.specs.declared.Refusal.TheVariants.{Limits, Text}
-use Rattle.text.specs.declared.decimal.Decimal.{Decimal}
 use Rattle.text.specs.Fixed.{holds, comma, line_end}
-use Rattle.text.specs.Decimal.{decimal_at}
+use Rattle.text.specs.Decimal.{Decimal, decimal_at}
 use Rattle.text_sets.specs.Hexadecimal.{hexadecimal_at}
 use Rattle.text_lines.specs.Format.{crew_word}
 use Rattle.text_lines.specs.declared.header.Header.{Header}

@@ -4,7 +4,7 @@ ghost use Rattle.text_lines.specs.Lines.{header_at, header_fields};
 
 use limits::limits_kept;
 use refusals::Refusal;
-use text::{read_decimal, read_fixed, read_line_end};
+use text::Rest;
 
 // n, m and the place after the line.
 #[derive(Clone, Copy)]
@@ -18,15 +18,15 @@ pub struct Header {
 fn read_fields(text: &[u8]) -> Option<Header>
     ensures { result ≡ header_fields text.now }
 {
-    let users = read_fixed(text, 0, b"crew,")?;
-    let n = read_decimal(text, users)?;
-    let permissions = read_fixed(text, n.next, b",")?;
-    let m = read_decimal(text, permissions)?;
-    let next = read_line_end(text, m.next)?;
+    let rest = Rest::of(text).fixed(b"crew,")?;
+    let (n, rest) = rest.decimal()?;
+    let rest = rest.fixed(b",")?;
+    let (m, rest) = rest.decimal()?;
+    let rest = rest.line_end()?;
     Some(Header {
-        n: n.value,
-        m: m.value,
-        next,
+        n,
+        m,
+        next: rest.at,
     })
 }
 

@@ -1,10 +1,10 @@
 -- The same lines, out of a record's words.
 -- Assumes nothing.
-use Rattle.std.specs.Prelude.{◌≡◌, List, [], ℕ, ◌+◌, ◌*◌, ◌≤◌, length, get_or}
+use Rattle.std.specs.Prelude.{List, [], ℕ, ◌+◌, ◌*◌, ◌≤◌, get_or}
 use Rattle.sets.specs.Truth.{when◌then◌else◌}
 use Rattle.sets.specs.Sets.{has}
 use Rattle.model.specs.Lists.{set_at}
-use Rattle.model.specs.Record.{record_length, sets_start, permissions_start, members_start, juniors_start}
+use Rattle.model.specs.Record.{sets_start, permissions_start, members_start, juniors_start}
 use Rattle.text_roles.specs.Lines.{line, lines_to}
 
 -- no text has a longer listing
@@ -15,9 +15,8 @@ most_bytes = 32768
 abbrev pub refused_bytes : ℕ
 refused_bytes = 29
 
--- a whole record whose header keeps the limits
+-- the header of a record keeps the limits
 pub record Limited (ws : List ℕ) : Type 0 where
-  pub full : length ws ≡ record_length
   pub users : get_or ws 0 0 ≤ 128
   pub permissions : get_or ws 1 0 ≤ 256
   pub candidates : get_or ws 2 0 ≤ 128

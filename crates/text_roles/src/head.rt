@@ -7,7 +7,6 @@ ghost use Rattle.text_roles.specs.Words.{most_bytes, refused_bytes};
 use crate::lines::put_number;
 use text::{put_bytes, put_first_line};
 
-// Space for a refusal is enough.
 pub fn put_refusal(out: &mut [u8], code: u64) -> usize
     requires { refused_bytes ≤ length out.old }
     ensures { (result ≡ length (refused_text code)) × (out.new ≡ put_at out.old 0 (refused_text code)) × (result ≤ refused_bytes) }
@@ -15,14 +14,6 @@ pub fn put_refusal(out: &mut [u8], code: u64) -> usize
     let number = put_bytes(out, 0, b"refused,");
     let end = put_number(out, number, code);
     put_bytes(out, end, b"\n")
-}
-
-// A refusal, where a listing would have space.
-pub fn put_refused(out: &mut [u8], code: u64) -> usize
-    requires { most_bytes ≤ length out.old }
-    ensures { (result ≡ length (refused_text code)) × (out.new ≡ put_at out.old 0 (refused_text code)) × (result ≤ most_bytes) }
-{
-    put_refusal(out, code)
 }
 
 // How many roles stand, and the quality.

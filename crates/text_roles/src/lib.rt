@@ -4,5 +4,5 @@
 mod head;
 mod lines;
 
-pub use head::{put_head, put_refusal, put_refused};
+pub use head::{put_head, put_refusal};
 pub use lines::put_lines;

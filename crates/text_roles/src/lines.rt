@@ -6,7 +6,7 @@ ghost use Rattle.text.specs.Decimal.{decimal};
 ghost use Rattle.text_roles.specs.Lines.{field};
 ghost use Rattle.text_roles.specs.Words.{Limited, words_line, standing_line, words_lines};
 
-use tables::{JUNIORS, MEMBERS, PERMISSIONS, SETS, STANDING, load};
+use tables::{JUNIORS, MEMBERS, PERMISSIONS, Record, SETS, STANDING, load};
 use text::{put_bytes, put_decimal};
 use text_lines::digits_for;
 use text_sets::put_hexadecimal;
@@ -21,7 +21,7 @@ pub fn put_number(out: &mut [u8], at: usize, v: u64) -> usize
 
 // A comma, and the set at this place of the record.
 fn put_set<const WORDS: usize>(
-    rec: &[u64],
+    rec: &Record,
     place: usize,
     size: u64,
     out: &mut [u8],
@@ -35,15 +35,14 @@ fn put_set<const WORDS: usize>(
 }
 
 // How many candidates there are, standing or not.
-fn candidates(rec: &[u64]) -> u64
-    requires { Limited rec.now }
+fn candidates(rec: &Record) -> u64
     ensures { result ≡ get_or rec.now 2 0 }
 {
     rec[2]
 }
 
 // The line of role k.
-fn put_line(rec: &[u64], out: &mut [u8], at: usize, k: usize) -> usize
+fn put_line(rec: &Record, out: &mut [u8], at: usize, k: usize) -> usize
     requires { Limited rec.now × (k < 128) × (at + 217 ≤ length out.old) }
     ensures value { result ≡ at + length (words_line rec.now k) }
     ensures out_after { out.new ≡ put_at out.old at (words_line rec.now k) }
@@ -57,7 +56,7 @@ fn put_line(rec: &[u64], out: &mut [u8], at: usize, k: usize) -> usize
 }
 
 // The line of role k where it stands.
-fn put_standing(rec: &[u64], out: &mut [u8], at: usize, k: usize) -> usize
+fn put_standing(rec: &Record, out: &mut [u8], at: usize, k: usize) -> usize
     requires { Limited rec.now × (k < 128) × (at + 217 ≤ length out.old) }
     ensures value { result ≡ at + length (standing_line rec.now k) }
     ensures out_after { out.new ≡ put_at out.old at (standing_line rec.now k) }
@@ -70,7 +69,7 @@ fn put_standing(rec: &[u64], out: &mut [u8], at: usize, k: usize) -> usize
 }
 
 // The lines of all standing roles.
-pub fn put_lines(rec: &[u64], out: &mut [u8], start: usize) -> usize
+pub fn put_lines(rec: &Record, out: &mut [u8], start: usize) -> usize
     requires limited { Limited rec.now }
     requires start_in_bounds { start + 27776 ≤ length out.old }
     ensures value { result ≡ start + length (words_lines rec.now (get_or rec.now 2 0)) }

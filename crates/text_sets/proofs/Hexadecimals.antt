@@ -12,16 +12,19 @@ use lib.Dec.{leb, ltb}
 use lib.ListN.{length, get_or, set}
 use lib.Pow.{pow-add, pow_mono, field, mod-mod-pow, shr-shr}
 use lib.Bits.{bit_and, and_mask}
-use Rattle.sets.specs.Truth.{all}
+use Rattle.sets.specs.Truth.{◌and◌, all}
 use Rattle.sets.specs.Words.{value, word}
 use Rattle.sets.proofs.Words.{value-nil, value-cons, value_words, word_quotient}
 use Rattle.sets.proofs.Truth.{not-So, when-true, when-false, and_iff, all_of, all_is, ltb_iff, leb_iff, either}
 use Rattle.text.specs.Digits.{digit_at, digit_byte}
+use Rattle.text.specs.Rest.{moved}
+use Rattle.text.specs.declared.rest.Rest.{Rest}
 use Rattle.text.proofs.Bytes.{field_there, field_missing}
+use Rattle.text.proofs.Rests.{after_there, after_missing}
 use Rattle.stores.specs.Stores.{put_at}
 use Rattle.stores.proofs.Stores.{put_at-append}
-use Rattle.std.specs.Prelude.{Option, Some, None}
-use Rattle.text_sets.specs.Hexadecimal.{hexadecimal_at, hexadecimal_field, hexadecimal_value, hexadecimal}
+use Rattle.std.specs.Prelude.{Option, Some, None, MatchOption, is_some}
+use Rattle.text_sets.specs.Hexadecimal.{hexadecimal_at, hexadecimal_field, after_digits, hexadecimal_value, hexadecimal}
 
 -- 16 to the d is 2 to the 4 d
 pub sixteen : (d : ℕ) → 16 ^ d ≡ 2 ^ (4 * d)
@@ -53,13 +56,21 @@ module _ (d : ℕ) (text : List ℕ) (at : ℕ) where
   pub hex_short : length text < at + d → hexadecimal_at d text at ≡ false
   hex_short h = not-So (hexadecimal_at d text at) (λ s. let l : at + d ≤ length text = hex_end s in omega arith)
 
-  pub hex_fails : (i : ℕ) → i < d → 16 ≤ digit_at text (at + i) → hexadecimal_at d text at ≡ false
-  hex_fails i l h = not-So (hexadecimal_at d text at) (λ s. let k : digit_at text (at + i) < 16 = hex_digit s i l in omega arith)
+  -- where the text is long enough, the places tell it
+  pub hex_asked : at + d ≤ length text → all d (λ i. ltb (digit_at text (at + i)) 16) ≡ hexadecimal_at d text at
+  unfolding hexadecimal_at ◌and◌
+  hex_asked h = let e : leb (at + d) (length text) ≡ true = (leb_iff (at + d) (length text)).1 h in rw e refl
 
-  pub hex_all : at + d ≤ length text → ((i : ℕ) → i < d → digit_at text (at + i) < 16) → hexadecimal_at d text at ≡ true
-  hex_all b h = hex_iff.1 (b, h)
+-- a digit that is there is one below 16
+there : (r : Option (ℕ × Rest)) (d : ℕ) (next : Rest) → MatchOption r (d ≡ 16) (λ x. (x.0 < 16) × (x.0 ≡ d) × (x.1 ≡ next)) → is_some r ≡ ltb d 16
+there None d next e = rw e refl
+there (Some x) d next e = let l : d < 16 = rw e.1 at e.0 in sym ((ltb_iff d 16).1 l)
 
-pub ruleset place_laws = (hex_short, hex_fails, hex_all)
+pub digit_told : (rest s : Rest) (i : ℕ) (r : Option (ℕ × Rest)) → s ≡ moved rest i
+    → MatchOption r (digit_at s.text.now s.at ≡ 16) (λ x. (x.0 < 16) × (x.0 ≡ digit_at s.text.now s.at) × (x.1 ≡ moved s 1))
+    → is_some r ≡ ltb (digit_at rest.text.now (rest.at + i)) 16
+unfolding moved
+digit_told rest s i r e m = there r (digit_at s.text.now s.at) (moved s 1) m ∙ ap (λ (x : Rest). ltb (digit_at x.text.now x.at) 16) e
 
 -- a part of them
 pub hex_part : (d : ℕ) (text : List ℕ) (at a k : ℕ) → So (hexadecimal_at d text at) → a + k ≤ d → So (hexadecimal_at k text (at + a))
@@ -257,3 +268,20 @@ module _ (d : ℕ) (text : List ℕ) (at : ℕ) {r : Option ℕ} (h : r ≡ hexa
   pub hexadecimal_missing : r ≡ None → hexadecimal_at d text at ≡ false
   unfolding hexadecimal_field
   hexadecimal_missing = field_missing (at + d) h
+
+-- what is left after the digits, of what is left of this text from this place on
+module _ (rest : Rest) (d : ℕ) (text : List ℕ) (at : ℕ) (t : rest.text.now ≡ text) (a : rest.at ≡ at) where
+  field_same : hexadecimal_field d rest.text.now rest.at ≡ hexadecimal_field d text at
+  field_same = λ i. hexadecimal_field d (t i) (a i)
+
+  pub rest_digits : {r : Rest} → after_digits rest d ≡ Some r → (hexadecimal_field d text at ≡ Some r.at) × (r.text.now ≡ text) × (r.text ≡ rest.text)
+  unfolding after_digits
+  rest_digits e = let w = after_there rest (hexadecimal_field d rest.text.now rest.at) e in (sym field_same ∙ w.0, ap (λ b. b.now) w.1 ∙ t, w.1)
+
+  pub no_digits : after_digits rest d ≡ None → hexadecimal_field d text at ≡ None
+  unfolding after_digits
+  no_digits e = sym field_same ∙ after_missing rest (hexadecimal_field d rest.text.now rest.at) e
+
+-- where something is left after the digits, they stand there
+pub digits_there : (rest : Rest) (d : ℕ) {r : Rest} → after_digits rest d ≡ Some r → hexadecimal_at d rest.text.now rest.at ≡ true
+digits_there rest d e = (hexadecimal_there d rest.text.now rest.at refl (rest_digits rest d rest.text.now rest.at refl refl e).0).0

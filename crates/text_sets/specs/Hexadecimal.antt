@@ -3,6 +3,8 @@
 use Rattle.std.specs.Prelude.{Bool, Option, Some, None, List, [], ◌∷◌, ℕ, zero, suc, ◌+◌, ◌*◌, ◌/◌, ◌%◌, ◌^◌, leb, ltb, length}
 use Rattle.sets.specs.Truth.{◌and◌, when◌then◌else◌, all}
 use Rattle.text.specs.Digits.{digit_byte, digit_at}
+use Rattle.text.specs.Rest.{after}
+use Rattle.text.specs.declared.rest.Rest.{Rest}
 
 -- d digits stand from place `at` on
 unfoldable pub hexadecimal_at : ℕ → List ℕ → ℕ → Bool
@@ -11,6 +13,10 @@ hexadecimal_at d text at = leb (at + d) (length text) and all d (λ i. ltb (digi
 -- the field of d digits
 unfoldable pub hexadecimal_field : ℕ → List ℕ → ℕ → Option ℕ
 hexadecimal_field d text at = when hexadecimal_at d text at then Some (at + d) else None
+
+-- what is left after them
+unfoldable pub after_digits : Rest → ℕ → Option Rest
+after_digits rest d = after rest (hexadecimal_field d rest.text.now rest.at)
 
 -- the number that the d digits from place `at` on make
 unfoldable pub hexadecimal_value : ℕ → List ℕ → ℕ → ℕ

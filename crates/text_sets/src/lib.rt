@@ -1,71 +1,72 @@
 // Sets in hexadecimal, highest digit first.
 #![tactic(auto)]
 
-ghost use Rattle.std.specs.Prelude.{◌≡◌, ◌+◌, ◌-◌, ◌≤◌, length};
+ghost use Rattle.std.specs.Prelude.{◌≡◌, ◌+◌, ◌-◌, ◌^◌, ◌<◌, ◌≤◌, ltb, length};
 ghost use Rattle.std.proofs.Math.Bool.{So};
 ghost use Rattle.sets.specs.Held.{set_of};
-ghost use Rattle.text_sets.specs.Hexadecimal.{hexadecimal, hexadecimal_at, hexadecimal_field, hexadecimal_value};
+ghost use Rattle.text.specs.Digits.{digit_at};
+ghost use Rattle.text_sets.specs.Hexadecimal.{after_digits, hexadecimal, hexadecimal_at, hexadecimal_value};
 ghost use Rattle.stores.specs.Stores.{put_at};
 
 use sets::{Set, Set256};
-use text::{digit_at, digit_byte};
+use text::{Rest, digit_byte};
 
-// Whether d digits stand from place `at` on.
-#[tactic(auto, using(crate::proofs::Hexadecimals::place_laws))]
-fn has_digits(text: &[u8], at: usize, d: usize) -> bool
-    ensures { result ≡ hexadecimal_at d text.now at }
+// Whether a digit stands i bytes further on.
+fn is_digit(rest: Rest, i: usize) -> bool
+    requires { rest.at + i < 2 ^ 64 }
+    ensures { result ≡ ltb (digit_at rest.entry.text.now (rest.entry.at + i)) 16 }
 {
-    if text.len() < d || text.len() - d < at {
-        return false;
-    }
-    for i in 0..d {
-        if digit_at(text, at + i).is_none() {
-            return false;
-        }
-    }
-    true
+    rest.skip(i).digit().is_some()
 }
 
-// The place after d digits, where they stand at place `at`.
-#[tactic(auto, using(crate::proofs::Hexadecimals::field_laws))]
-pub fn read_hexadecimal(text: &[u8], at: usize, d: usize) -> Option<usize>
-    ensures { result ≡ hexadecimal_field d text.now at }
+// Whether d digits stand there.
+#[tactic(auto, using(crate::proofs::Hexadecimals::hex_short))]
+fn has_digits(rest: Rest, d: usize) -> bool
+    ensures { result ≡ hexadecimal_at d rest.entry.text.now rest.entry.at }
 {
-    if has_digits(text, at, d) {
-        Some(at + d)
+    d <= rest.text.len() && rest.at <= rest.text.len() - d && (0..d).all(|i| is_digit(rest, i))
+}
+
+// What is left after d digits, where they stand there.
+#[tactic(auto, using(crate::proofs::Hexadecimals::field_laws), unfolding(text::specs::Rest::after, text::specs::Rest::moved, crate::specs::Hexadecimal::after_digits))]
+pub fn read_hexadecimal<'a>(rest: Rest<'a>, d: usize) -> Option<Rest<'a>>
+    ensures { result ≡ after_digits rest.entry d }
+{
+    if has_digits(rest, d) {
+        Some(rest.skip(d))
     } else {
         None
     }
 }
 
 // The word that d digits make.
-#[tactic(auto, using(crate::proofs::Hexadecimals::value_laws), unfolding(crate::specs::Hexadecimal::hexadecimal_value))]
-fn word_of(text: &[u8], at: usize, d: usize) -> u64
+#[tactic(auto, using(crate::proofs::Hexadecimals::value_laws), unfolding(crate::specs::Hexadecimal::hexadecimal_value, text::specs::Rest::moved))]
+fn word_of(rest: Rest, d: usize) -> u64
     requires d_bound { d ≤ 16 }
-    requires so { So (hexadecimal_at d text.now at) }
-    ensures { result ≡ hexadecimal_value d text.now at }
+    requires so { So (hexadecimal_at d rest.text.now rest.at) }
+    ensures { result ≡ hexadecimal_value d rest.entry.text.now rest.entry.at }
 {
     let mut v = 0;
     for i in 0..d {
-        v = v * 16 + digit_at(text, at + i).unwrap();
+        v = v * 16 + rest.skip(i).digit().unwrap().0;
     }
     v
 }
 
 // The set that d digits make, the last 16 of them the lowest word. It is read by itself, once the whole line is known to have its form.
-#[tactic(auto, using(crate::proofs::Hexadecimals::set_laws))]
-pub fn hexadecimal_set(text: &[u8], at: usize, d: usize) -> Set256
+#[tactic(auto, using(crate::proofs::Hexadecimals::set_laws), unfolding(text::specs::Rest::moved))]
+pub fn hexadecimal_set(rest: Rest, d: usize) -> Set256
     requires d_bound { d ≤ 64 }
-    requires so { So (hexadecimal_at d text.now at) }
-    ensures { set_of result ≡ hexadecimal_value d text.now at }
+    requires so { So (hexadecimal_at d rest.text.now rest.at) }
+    ensures { set_of result ≡ hexadecimal_value d rest.entry.text.now rest.entry.at }
 {
     let a = d.saturating_sub(16);
     let b = a.saturating_sub(16);
     let c = b.saturating_sub(16);
-    let w0 = word_of(text, at + a, d - a);
-    let w1 = word_of(text, at + b, a - b);
-    let w2 = word_of(text, at + c, b - c);
-    let w3 = word_of(text, at, c);
+    let w0 = word_of(rest.skip(a), d - a);
+    let w1 = word_of(rest.skip(b), a - b);
+    let w2 = word_of(rest.skip(c), b - c);
+    let w3 = word_of(rest, c);
     Set256::from_words([w0, w1, w2, w3])
 }
 

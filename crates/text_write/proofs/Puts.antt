@@ -2,11 +2,14 @@
 -- Assumes nothing.
 use mathlib.Core.Path.{◌≡◌, refl, sym, ◌∙◌, ap}
 use mathlib.Core.Bool.{So}
-use mathlib.Core.List.{List, ◌++◌}
-use Prim.Native.Nat.{ℕ, ◌+◌, ◌*◌, ◌≤◌, ◌<◌}
+use mathlib.Core.List.{List, [], ◌++◌}
+use Prim.Native.Nat.{ℕ, zero, suc, ◌+◌, ◌*◌, ◌≤◌, ◌<◌}
+use native.Mathlib.Nat.{add-zero}
 use native.Mathlib.Omega.{arith}
 use native.Mathlib.Numerals.{add-one}
 use lib.ListN.{length, get_or}
+use Rattle.std.specs.List.{range_with_len, sum_by}
+use Rattle.std.proofs.lemmas.List.Sums.{sum_by-cons}
 use Rattle.model.specs.Lists.{set_at, rows_at}
 use Rattle.model.specs.State.{State}
 use Rattle.model.specs.Record.{record_length, crew_start, state_of, sound}
@@ -24,13 +27,30 @@ use Rattle.text_write.specs.Text.{record_text, longest_written}
 
 -- ---- how many bytes
 
-pub sized_none : (n m : ℕ) (rows : List ℕ) {a b : ℕ} → a ≡ length (decimal n) → b ≡ length (decimal m)
-    → 7 + a + b ≡ length (header_line n m) + length (row_lines m rows 0)
-sized_none n m rows ea eb = omega (arith, length_header n m, length-rows-zero m rows)
+-- the rows from the one at a on add what each has, whatever it is
+rows_sum : (m : ℕ) (rows : List ℕ) (row : ℕ → ℕ) → ((u : ℕ) → row u ≡ length (decimal u) + 1 + digits_for m + 1) → (a k : ℕ)
+    → length (row_lines m rows a) + sum_by row (range_with_len a k) ≡ length (row_lines m rows (a + k))
+rows_sum m rows row e a zero = rw (add-zero a) (omega arith)
+rows_sum m rows row e a (suc k) =
+    let x = rows_sum m rows row e (a + 1) k in
+    let f : a + 1 + k ≡ a + suc k = omega arith in
+    let y : length (row_lines m rows (a + 1 + k)) ≡ length (row_lines m rows (a + suc k)) = ap (λ (i : ℕ). length (row_lines m rows i)) f in
+    let z : length (row_lines m rows (a + 1)) ≡ length (row_lines m rows a) + (length (decimal a) + 1 + digits_for m + 1) = rw (add-one a) (length-rows_more m rows a) in
+    omega (arith, e a, sum_by-cons row a (range_with_len (a + 1) k))
 
-pub sized_more : (n m : ℕ) (rows : List ℕ) (u size : ℕ) {a d : ℕ} → a ≡ length (decimal u) → d ≡ digits_for m
-    → size ≡ length (header_line n m) + length (row_lines m rows u) → size + (a + (2 + d)) ≡ length (header_line n m) + length (row_lines m rows (u + 1))
-sized_more n m rows u size ea ed e = rw (add-one u) (omega (arith, length-rows_more m rows u))
+module _ (n m : ℕ) (row : ℕ → ℕ) (e : (u : ℕ) → row u ≡ length (decimal u) + 1 + digits_for m + 1) where
+  all_rows : (rows : List ℕ) → sum_by row (range_with_len 0 n) ≡ length (row_lines m rows n)
+  all_rows rows =
+      let f : 0 + n ≡ n = omega arith in
+      let s : length (row_lines m rows 0) + sum_by row (range_with_len 0 n) ≡ length (row_lines m rows n) = rw f at (rows_sum m rows row e 0 n) in
+      omega (arith, length-rows-zero m rows)
+
+  pub rows_short : n ≤ 128 → m ≤ 256 → sum_by row (range_with_len 0 n) ≤ 8735
+  rows_short h k = omega (arith, all_rows [], length_text n m [], length-crew_text n m [] h k)
+
+  pub sized : (rows : List ℕ) (a b r : ℕ) → a ≡ length (decimal n) → b ≡ length (decimal m) → r ≡ sum_by row (range_with_len 0 n)
+      → 7 + a + b + r ≡ length (crew_text n m rows)
+  sized rows a b r ea eb er = omega (arith, length_header n m, all_rows rows, length_text n m rows)
 
 -- ---- what is written
 

@@ -26,12 +26,9 @@ pub fn text_length(n: u64, m: u64) -> usize
     ensures { (rows : List ℕ) → result ≡ length (crew_text n m rows) }
 {
     // `crew,`, a comma and the line's end; for each row a comma and the line's end
-    let mut size = 7 + decimal_length(n) + decimal_length(m);
+    let header = 7 + decimal_length(n) + decimal_length(m);
     let row = 2 + digits_for(m);
-    for u in 0..n {
-        size += decimal_length(u) + row;
-    }
-    size
+    header + (0..n).map(|u| decimal_length(u) + row).sum::<usize>()
 }
 
 // The first line; the place after it.

@@ -10,7 +10,7 @@ pub returns-then-crew-n : goal.returns-then-crew-n
 returns-then-crew-n c = sym ((crew_check _ _ _).stops (λ h. c.if-crew-n.true h.0))
 
 pub returns-then-not-rows_within : goal.returns-then-not-rows_within
-returns-then-not-rows_within c = sym ((crew_check _ _ _).stops (λ h. So-not (sym (c.rows_within.ensures ∙ ap (rows_within c.args.m) c.crew_rows.ensures.value) ∙ c.if-not-rows_within.true) h.1))
+returns-then-not-rows_within c = sym ((crew_check _ _ _).stops (λ h. So-not (sym (c.rows_within.ensures ∙ ap (rows_within c.args.m) c.as_rows.ensures.value) ∙ c.if-not-rows_within.true) h.1))
 
 pub returns : goal.returns
-returns c = sym ((crew_check _ _ _).passes (c.if-crew-n.false, sym (c.rows_within.ensures ∙ ap (rows_within c.args.m) c.crew_rows.ensures.value) ∙ c.if-not-rows_within.false))
+returns c = sym ((crew_check _ _ _).passes (c.if-crew-n.false, sym (c.rows_within.ensures ∙ ap (rows_within c.args.m) c.as_rows.ensures.value) ∙ c.if-not-rows_within.false))

@@ -1,34 +1,33 @@
--- The table has the candidates of the rows so far.
+-- The candidates of the rows so far are found.
 -- Assumes nothing.
+use mathlib.Core.Path.{◌≡◌, sym, ◌∙◌, ap}
 use Prim.Native.Nat.{◌<◌}
 use native.Mathlib.Omega.{arith}
 use lib.ListN.{length}
-use mathlib.Core.Path.{◌∙◌, sym, subst}
+use Rattle.model.specs.Candidates.{mined_to}
+use Rattle.model.proofs.Candidates.{mined_table, candidates_mined}
+use Rattle.tables.specs.Rows.{rows_of}
 use Rattle.tables.proofs.Chunks.{length-rows_of, row_of}
-use Rattle.mining.specs.Mining.{Adds}
-use Rattle.mining.proofs.Users.{mining_none, mining_table, mining_all, mining_more, mining_full}
-use Rattle.mining.proofs.Seeing.{seen_none}
-use Rattle.mining.proofs.Walking.{seen_held}
+use Rattle.mining.proofs.Users.{mining_more, mining_full}
 use Rattle.mining.proofs.mine.Goals as goal
 
 pub loop-row-init : goal.loop-row-init
-loop-row-init c = (mining_none _ _ c.requires.0 c.requires.1, seen_none _ _ c.empty-seen.ensures)
+unfolding mined_to
+loop-row-init c = c.requires.none_yet
 
 pub add_row-requires : goal.add_row-requires
-add_row-requires c = let inv = c.loop-row.invariant in
-    (inv.0.holds.frame, mining_table _ _ inv.0, inv.1)
+add_row-requires c = rw c.loop-row.invariant (mined_table _ _)
 
-pub returns-in_err-candidates : goal.returns-in_err-candidates
-returns-in_err-candidates c = rw c.from_residual.ensures
-    (mining_full _ _ c.loop-row.invariant.0 _ (c.from_words.ensures ∙ sym (row_of _ _ (omega arith))) (rw (length-rows_of _) (omega arith)) (subst (Adds _ _ _) c.in_err-candidates.was c.add_row.ensures))
+pub returns-in_err-add_row : goal.returns-in_err-add_row
+returns-in_err-add_row c = let inside : c.loop-row.row-index < length c.args.rows.now = omega arith in
+    rw c.from_residual.ensures
+    (mining_full _ _ _ c.loop-row.invariant (c.from_words.ensures ∙ sym (row_of _ _ inside)) (rw (length-rows_of _) inside) c.in_err-add_row.ensures)
 
 pub loop-row-preserved : goal.loop-row-preserved
 loop-row-preserved c = let inside : c.loop-row.row-index < length c.args.rows.now = omega arith in
-    let new = subst (Adds _ _ _) c.in_ok-candidates.was c.add_row.ensures in (
-      mining_more _ _ c.loop-row.invariant.0 _ (c.from_words.ensures ∙ sym (row_of _ _ inside)) (rw (length-rows_of _) inside) new.0
-          (λ w. (c.type_inv.table w).fits),
-      seen_held new.0 new.1,
-    )
+    c.in_ok-add_row.ensures ∙ mining_more _ _ _ c.loop-row.invariant (c.from_words.ensures ∙ sym (row_of _ _ inside)) (rw (length-rows_of _) inside)
 
 pub returns : goal.returns
-returns c = mining_all _ _ c.loop-row.invariant.0 (omega arith ∙ sym (length-rows_of _))
+returns c = let all : c.loop-row.row-index ≡ length (rows_of c.args.rows.now) = rw (length-rows_of _) (omega arith) in
+    let found = rw (all, ← candidates_mined _) at c.loop-row.invariant in
+    record { sets = found; count = c.count-count.ensures.value ∙ ap length found; few = c.count-count.ensures.upper_bound }

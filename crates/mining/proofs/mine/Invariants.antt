@@ -1,10 +1,9 @@
--- The table has the candidates of the rows so far.
+-- The candidates of the rows so far are found.
 -- Assumes nothing.
-use Rattle.model.specs.Lists.{rows_at}
+use mathlib.Core.Path.{◌≡◌}
+use Rattle.model.specs.Candidates.{mined_to}
 use Rattle.tables.specs.Rows.{rows_of}
-use Rattle.mining.specs.Mining.{sets_of, Seen}
-use Rattle.mining.proofs.Users.{Mining}
 use Rattle.mining.proofs.mine.Given as goal
 
 abbrev pub invariant-loop-row : goal.invariant-loop-row
-invariant-loop-row l = Mining (rows_of l.rows) l.row-index l.table l.candidates × Seen (sets_of l.seen) (rows_at l.candidates l.table 0)
+invariant-loop-row l = l.found ≡ mined_to (rows_of l.rows) l.row-index

@@ -7,4 +7,4 @@ use mathlib.Core.Path.{◌≡◌}
 use Rattle.text_sets.proofs.word_of.Given as goal
 
 abbrev pub invariant-loop-i : goal.invariant-loop-i
-invariant-loop-i l = (l.at + l.d ≤ length l.text) × (l.v ≡ hexadecimal_value l.i l.text l.at)
+invariant-loop-i l = (l.rest.at + l.d ≤ length l.rest.text.now) × (l.v ≡ hexadecimal_value l.i l.rest.text.now l.rest.at)

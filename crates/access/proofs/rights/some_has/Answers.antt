@@ -1,11 +1,15 @@
--- Each role is asked, by `any_told`.
+-- The test of each role that is reached is that of all.
 -- Assumes nothing.
 use borrow.Author.Rules.{rules}
-use mathlib.Core.Path.{refl}
-use Rattle.std.proofs.lemmas.Iterator.{YieldsList-from_range}
-use Rattle.tables.proofs.Asking.{any_told}
-use Rattle.access.proofs.Search.{both_told}
+use Prim.Native.Nat.{◌*◌}
+use Rattle.sets.specs.Held.{set_of}
+use Rattle.sets.specs.Sets.{has}
+use Rattle.model.specs.Lists.{set_at}
+use Rattle.access.proofs.Search.{any_items}
 use Rattle.access.proofs.rights.some_has.Goals as goal
 
 pub returns : goal.returns
-returns c = any_told 128 _ _ _ _ c.any.ensures.ran (YieldsList-from_range 0 128 128 refl refl) (λ x t q k. (search rules, λ l. search (rules, both_told)))
+returns c =
+    any_items _ _ (set_of c.args.roles) (λ j. has (set_at 4 c.args.permissions.now (4 * j)) c.args.p)
+    (λ x t q h k. (search rules, search rules))
+    c.items.result c.any.new.self _ c.items.ensures c.any.ensures.ran

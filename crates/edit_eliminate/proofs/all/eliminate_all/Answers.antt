@@ -23,11 +23,7 @@ held c =
 
 -- the first turn
 abbrev turn : After-strikable_roles-worklist → Turn
-turn c =
-    record {
-      progress = record { counts = c.args.counts; quality = c.weigh.result; changed = 0; examined = 0 };
-      worklist = c.strikable_roles-worklist.result;
-    }
+turn c = record { progress = c.begin-progress.result; worklist = c.strikable_roles-worklist.result }
 
 first : (c : After-strikable_roles-worklist)
     → let ws = c.args.rec.now in
@@ -37,14 +33,15 @@ first : (c : After-strikable_roles-worklist)
 first c =
     let given = c.requires in
     let index = held (goal.at.After-strikable_roles-worklist c).After-fill_holders in
-    let weighed = c.weigh.ensures in
-    first_turn _ _ _ given.ready _ index.0 index.1 _ (turn c) given.exact weighed.value weighed.upper_bound refl refl c.strikable_roles-worklist.ensures
+    let begun = c.begin-progress.ensures in
+    first_turn _ _ _ given.ready _ index.0 index.1 _ (turn c) (rw begun.counts given.exact) (rw begun.counts begun.quality) begun.upper_bound begun.changed begun.examined
+    c.strikable_roles-worklist.ensures
 
 pub fill_holders-requires : goal.fill_holders-requires
 fill_holders-requires c = record { rec_bound = ready_few _ _ _ c.requires.ready }
 
-pub weigh-requires : goal.weigh-requires
-weigh-requires c = let given = c.requires in
+pub begin-progress-requires : goal.begin-progress-requires
+begin-progress-requires c = let given = c.requires in
     ready_weighed _ _ _ given.ready _ given.exact
 
 pub returns-then-is_empty : goal.returns-then-is_empty

@@ -1,6 +1,6 @@
 -- As many more passes may follow as c + 1 leaves.
 -- Assumes nothing.
-use mathlib.Core.Path.{◌≡◌, refl}
+use mathlib.Core.Path.{◌≡◌}
 use Prim.Native.Nat.{◌+◌, ◌-◌}
 use native.Mathlib.Omega.{arith}
 use lib.ListN.{get_or}
@@ -11,13 +11,14 @@ use Rattle.edit_review.proofs.walk.review_all.Goals as goal
 pub overflow_add-pass-end : goal.overflow_add-pass-end
 overflow_add-pass-end c = let few = ready_few _ _ _ c.requires.ready in omega arith
 
-pub weigh-requires : goal.weigh-requires
-weigh-requires c = let given = c.requires in
+pub begin-run-requires : goal.begin-run-requires
+begin-run-requires c = let given = c.requires in
     ready_weighed _ _ _ given.ready _ given.exact
 
 pub loop-pass-init : goal.loop-pass-init
 loop-pass-init c = let given = c.requires in
-    running_start _ _ _ _ _ _ (record { ready = given.ready; exact = given.exact }) (weighed _ _ _ _ given.exact c.weigh.ensures.value) refl refl (omega arith)
+    let begun = c.begin-run.ensures in
+    running_start _ _ _ _ _ _ (record { ready = given.ready; exact = rw begun.counts given.exact }) (weighed _ _ _ _ given.exact begun.quality) begun.changed begun.examined (omega arith)
 
 pub review_pass-next-requires : goal.review_pass-next-requires
 review_pass-next-requires c = let given = c.requires in

@@ -16,15 +16,15 @@ members c = search (words, held128)
 permissions : (c : Start) → set_of c.args.permissions < 2 ^ 256
 permissions c = search (words, held256)
 
-above : (c : Start) → set_of c.args.above < 2 ^ 128
+above : (c : Start) → set_of c.args.links.above < 2 ^ 128
 above c = search (words, held128)
 
-below : (c : Start) → set_of c.args.below < 2 ^ 128
+below : (c : Start) → set_of c.args.links.below < 2 ^ 128
 below c = search (words, held128)
 
-pub overflow_add-links : goal.overflow_add-links
-overflow_add-links c = let t = count_small 128 _ _ (below (goal.at.overflow_add-links c).Start) c.count.ensures in
-    let s = count_small 128 _ _ (above (goal.at.overflow_add-links c).Start) c.count-2.ensures in
+pub overflow_add-neighbours : goal.overflow_add-neighbours
+overflow_add-neighbours c = let t = count_small 128 _ _ (below (goal.at.overflow_add-neighbours c).Start) c.count.ensures in
+    let s = count_small 128 _ _ (above (goal.at.overflow_add-neighbours c).Start) c.count-2.ensures in
     omega arith
 
 pub returns : goal.returns

@@ -9,5 +9,5 @@ returns c = record {
   few = c.role_counts.ensures.few;
   result_value = λ ρ n w sets users b near.
       c.role_counts.ensures.result_value
-      ∙ role_counted ρ _ _ _ _ _ _ (c.members_of-members.ensures ρ n w users b near.seniors) (c.permissions_of-permissions.ensures ρ n w sets b near.juniors) near;
+      ∙ role_counted ρ _ _ _ _ _ _ (c.members_of-members.ensures ρ n w users b near.seniors) ((rw c.candidate_sets.ensures at c.permissions_of-permissions.ensures) ρ n w sets b near.juniors) near;
 }

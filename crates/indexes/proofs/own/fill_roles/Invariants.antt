@@ -10,4 +10,4 @@ use Rattle.indexes.specs.Tables.{Source, Owned}
 use Rattle.indexes.proofs.own.fill_roles.Given as goal
 
 abbrev pub invariant-loop-u : goal.invariant-loop-u
-invariant-loop-u l = (st : State) → Source st (rows_of l.rows) (length l.rows) l.table l.c → Owned st l.u l.low (set_of l.own.roles) (set_of l.own.users) × Filled 2 l.u (roles_of_user (roles_of st)) l.initial.out l.out
+invariant-loop-u l = (st : State) → Source st (rows_of l.rows) (length l.rows) l.sets l.c → Owned st l.u l.low (set_of l.own.roles) (set_of l.own.users) × Filled 2 l.u (roles_of_user (roles_of st)) l.initial.out l.out

@@ -17,4 +17,4 @@ returns c = let given = c.requires in
     let small : set_of c.lower_of.result < 2 ^ 128 = search (words, held128) in
     λ st crew n cc i src le lu own h.
     rw c.store.ensures
-    (own_learnt st crew n _ cc src _ _ _ i _ _ _ _ _ h (omega arith) given.1 given.2 le lu own c.lower_of.ensures small c.insert.ensures c.insert-2.ensures)
+    (own_learnt st crew n _ cc src _ _ _ i _ _ _ _ _ h (omega arith) given.e_bound given.u_bound le lu own c.lower_of.ensures small c.insert.ensures c.insert-2.ensures)

@@ -7,9 +7,6 @@ use Rattle.listing.proofs.roles.put_roles.Goals as goal
 pub unwrap-quality-requires : goal.unwrap-quality-requires
 unwrap-quality-requires c = quality_told _ _ c.requires.so c.panel_quality.ensures
 
-pub load-requires : goal.load-requires
-load-requires c = omega (arith, (sound-limited _ c.requires.so).full)
-
 pub put_lines-requires : goal.put_lines-requires
 put_lines-requires c = record { limited = sound-limited _ c.requires.so; start_in_bounds = omega arith }
 

@@ -8,8 +8,8 @@ use Rattle.records.proofs.check.within.Goals as goal
 use Rattle.std.proofs.Common.{ap}
 use mathlib.Core.Bool.{not}
 
-pub crew_rows-requires : goal.crew_rows-requires
-crew_rows-requires c = let k = (within_limits_iff _ _).0 (sym c.limits_kept.ensures ∙ c.if-limits_kept.true) in
+pub as_rows-requires : goal.as_rows-requires
+as_rows-requires c = let k = (within_limits_iff _ _).0 (sym c.limits_kept.ensures ∙ c.if-limits_kept.true) in
     let few = k.1 in
     omega arith
 
@@ -18,7 +18,7 @@ rows_within-requires c = let k = (within_limits_iff _ _).0 (sym c.limits_kept.en
     record { m_bound = k.3 }
 
 pub returns-then-limits_kept : goal.returns-then-limits_kept
-returns-then-limits_kept c = first_holds _ _ _ _ c.limits_kept.ensures (ap not c.if-limits_kept.true) (rw c.crew_rows.ensures.value at c.rows_within.ensures)
+returns-then-limits_kept c = first_holds _ _ _ _ c.limits_kept.ensures (ap not c.if-limits_kept.true) (rw c.as_rows.ensures.value at c.rows_within.ensures)
 
 pub returns-else-limits_kept : goal.returns-else-limits_kept
 returns-else-limits_kept c = c.if-limits_kept.false ∙ first_fails _ _ _ c.limits_kept.ensures (ap not c.if-limits_kept.false)

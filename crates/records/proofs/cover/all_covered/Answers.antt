@@ -4,7 +4,7 @@ use borrow.Author.Rules.{rules}
 use mathlib.Core.Path.{refl, sym, ◌∙◌}
 use native.Mathlib.Omega.{arith}
 use Rattle.std.proofs.lemmas.Iterator.{YieldsList-from_range}
-use Rattle.tables.proofs.Asking.{all_told}
+use Rattle.sets.proofs.Asking.{all_told}
 use Rattle.records.specs.Records.{each_grant_covered}
 use Rattle.records.proofs.Covering.{users_counted}
 use Rattle.records.proofs.cover.all_covered.Goals as goal

@@ -6,5 +6,5 @@ use Rattle.records.proofs.Covering.{own_roles_are}
 use Rattle.records.proofs.cover.grants_covered.Goals as goal
 
 pub returns : goal.returns
-returns c = λ st src same ix lu. c.user_covered.ensures st _ _ _ _ src ix.lower_roles lu (c.load-row.ensures ∙ row_in st _ src _ lu)
+returns c = λ st src same ix lu. (rw c.candidate_sets.ensures at c.user_covered.ensures) st _ _ _ _ src ix.lower_roles lu (c.load-row.ensures ∙ row_in st _ src _ lu)
     (own_roles_are st _ src.users _ ix _ _ _ _ lu c.load.ensures c.intersection-own.ensures same)

@@ -1,7 +1,7 @@
 -- The cleared record gets its candidates, then its header and crew rows, then its rows.
 -- Assumes nothing.
 use borrow.Author.Rules.{rules}
-use mathlib.Core.Path.{◌≡◌}
+use mathlib.Core.Path.{◌≡◌, ◌∙◌, ap}
 use mathlib.Core.List.{List}
 use Prim.Native.Nat.{ℕ}
 use lib.ListN.{length}
@@ -22,12 +22,12 @@ rows c = rows_of c.args.rows.now
 candidates-at : (c : After-copy) → OnlyCandidates c.copy.new.ws (candidates (rows (goal.at.After-copy c).Start))
 candidates-at c =
     let size : length c.clear.new.ws ≡ record_length = search rules in
-    rw c.copy.ensures (only_candidates _ _ _ _ size c.clear.ensures c.requires.written)
+    rw c.copy.ensures (only_candidates _ _ _ size c.clear.ensures (rw c.requires.mined at c.table.ensures))
 
 begun-at : (c : After-begin_record) → WithoutRows (fresh (length c.args.rows.now) c.args.m (rows (goal.at.After-begin_record c).Start)) c.begin_record.new.rec
 begun-at c =
     let given = c.requires in
-    c.begin_record.ensures _ (fresh_described _ _ _ _ _ given.limits given.crew_value c.below.ensures) (fresh-candidates _ _ _ _ (candidates-at (goal.at.After-begin_record c).After-copy))
+    c.begin_record.ensures _ (fresh_described _ _ _ _ _ given.limits (c.count-c.ensures.value ∙ ap length given.mined) c.below.ensures) (fresh-candidates _ _ _ _ (candidates-at (goal.at.After-begin_record c).After-copy))
 
 pub begin_record-requires : goal.begin_record-requires
 begin_record-requires c = let given = c.requires in

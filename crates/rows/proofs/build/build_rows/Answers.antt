@@ -6,4 +6,4 @@ use Rattle.rows.proofs.build.build_rows.Goals as goal
 
 pub returns : goal.returns
 returns c = λ st lim b ix. rows_built st lim _ _ b ix _ _ _ c.clear.new.ws _ c.load-standing.ensures c.fill_uppers.ensures
-    c.clear.ensures c.fill_columns.ensures (omega arith) c.fill_lowers.ensures
+    c.clear.ensures (rw c.immediate_juniors.ensures at c.fill_columns.ensures) (omega arith) c.fill_lowers.ensures

@@ -28,7 +28,7 @@ returns c = λ st lim h ix.
     let to = standing_told st ws h lim _ _ c.load-standing.ensures ix in
     let none : NoneBehind ws (candidate_count (roles_of st)) = rw count (passed _ c.none_behind.ensures (ap not c.if-not-none_behind.false)) in
     let held : (k : ℕ) → k < candidate_count (roles_of st) → UpperHeld st ws k = λ k l. passed _ (c.uppers_match.ensures st to h) (ap not c.if-not-uppers_match.false) k (rw count at l) in
-    let linked = seniors_linked st lim ws fits none held _ _ _ c.clear.new.ws _ to count c.clear.ensures c.fill_columns.ensures (omega arith) in
+    let linked = seniors_linked st lim ws fits none held _ _ _ c.clear.new.ws _ to count c.clear.ensures (rw c.immediate_juniors.ensures at c.fill_columns.ensures) (omega arith) in
     let lowers = c.lowers_match.ensures st to linked (juniors_held st lim ws fits none held _ to.standing) in (
       (
         λ t. rows_built st lim ws fits none held h (λ k l. lowers.0 t k (rw count at l)),

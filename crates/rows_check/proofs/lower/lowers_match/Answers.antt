@@ -4,7 +4,7 @@ use borrow.Author.Rules.{rules}
 use mathlib.Core.Path.{refl}
 use native.Mathlib.Omega.{arith}
 use Rattle.std.proofs.lemmas.Iterator.{YieldsList-from_range}
-use Rattle.tables.proofs.Asking.{told_by_all}
+use Rattle.sets.proofs.Asking.{told_by_all}
 use Rattle.rows_check.specs.Held.{LowerHeld}
 use Rattle.rows_check.proofs.lower.lowers_match.Goals as goal
 

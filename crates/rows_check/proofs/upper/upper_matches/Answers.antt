@@ -16,7 +16,7 @@ returns-then-ne c = λ st to h.
 
 pub returns : goal.returns
 returns c = λ st to h.
-    let e = upper_computed st _ _ _ to _ _ _ c.juniors_of-juniors.ensures c.permissions_of-permissions.ensures h in
+    let e = upper_computed st _ _ _ to _ _ _ c.juniors_of-juniors.ensures (rw c.candidate_sets.ensures at c.permissions_of-permissions.ensures) h in
     let told = c.eq.ensures ∙ equal_sets c.load-2.result c.permissions_of-permissions.result (search words) (search words) in
     let same = equal _ _ _ (equal_sets c.load.result c.juniors_of-juniors.result (search words) (search words)) (sym c.ne.ensures ∙ c.if-ne.false) in (
       λ t. record {

@@ -1,17 +1,13 @@
 -- `Set::below` meets its contract: each word is the mask of the items below n.
 -- Assumes nothing.
-use mathlib.Core.Path.{◌∙◌}
+use borrow.Author.Rules.{rules}
+use Prim.Native.Nat.{◌*◌}
 use Rattle.sets.specs.Held.{set_of}
-use Rattle.sets.proofs.Made.{none_given, given_more, all_given}
-use Rattle.sets.proofs.Below.{mask_capped, below_words}
+use Rattle.sets.proofs.Made.{made_words}
+use Rattle.sets.proofs.Below.{mask_from, mask_capped, below_words}
+use Rattle.sets.proofs.Written.{words}
 use Rattle.sets.proofs.set.Set.below.Goals as goal
-
-pub loop-j-init : goal.loop-j-init
-loop-j-init g c = none_given _ g.row.WORDS
-
-pub loop-j-preserved : goal.loop-j-preserved
-loop-j-preserved g c = given_more _ _ _ _ _ c.loop-j-test.true (c.mask_below.ensures ∙ rw (← c.saturating_mul.ensures) at (mask_capped c.loop-j.j _ c.ranges.n.fits)) c.loop-j.invariant
 
 pub returns : goal.returns
 unfolding set_of
-returns g c = below_words g.row.WORDS _ _ c.loop-j.invariant.long (all_given _ _ _ _ c.loop-j-test.false c.loop-j.invariant)
+returns g c = below_words g.row.WORDS _ _ (search words) (made_words _ _ (λ j. mask_from (64 * j) c.args.n) _ _ (λ k y q b. let m = mask_capped k c.args.n c.ranges.n.fits in search (rules, m)) c.from_fn.ensures.items)

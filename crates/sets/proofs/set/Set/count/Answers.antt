@@ -1,18 +1,26 @@
--- `Set::count` meets its contract: a word has at most 64 items, and those of the words from w on are still to be counted.
+-- `Set::count` meets its contract: the sum of its words' items, which fits.
 -- Assumes nothing.
-use native.Mathlib.Nat.{zero-add}
+use borrow.Author.Rules.{rules}
+use mathlib.Core.Path.{◌≡◌, ◌∙◌}
 use native.Mathlib.Omega.{arith}
+use Prim.Native.Nat.{◌<◌, ◌^◌}
+use lib.Count.{ones}
+use Rattle.std.specs.Prelude.{sum_by}
 use Rattle.sets.specs.Held.{set_of}
+use Rattle.sets.proofs.Compare.{value-count, count_le}
 use Rattle.sets.proofs.Written.{words}
-use Rattle.sets.proofs.Walked.{counted_more, counted_all}
 use Rattle.sets.proofs.set.Set.count.Goals as goal
+use Rattle.sets.proofs.set.Set.count.Goals.{After-sum}
+use Rattle.sets.proofs.set.Set.count.Given.{Over}
 
-pub loop-w-init : goal.loop-w-init
-loop-w-init g c = (zero-add _, omega arith)
+told : (g : Over) (c : After-sum g) → c.sum.result ≡ sum_by ones c.args.self.words
+told g c = search rules
 
-pub loop-w-preserved : goal.loop-w-preserved
-loop-w-preserved g c = (rw c.count_of-count.ensures.value (counted_more g.row.WORDS _ (search words) _ c.loop-w-test.true _ c.loop-w.invariant.0), omega arith)
+pub sum-requires-clause-fits : goal.sum-requires-clause-fits
+sum-requires-clause-fits g c = let most = count_le g.row.WORDS c.args.self.words (search words) (search words) in
+    let fits : sum_by ones c.args.self.words < 2 ^ 64 = omega (arith, most) in
+    search (rules, fits)
 
 pub returns : goal.returns
 unfolding set_of
-returns g c = counted_all g.row.WORDS _ (search words) _ _ c.loop-w-test.false c.loop-w.invariant.0
+returns g c = told g (goal.at.returns g c).After-sum ∙ value-count c.args.self.words (search words)
