@@ -9,8 +9,8 @@ use native.Mathlib.Nat.{le_refl, lt_irrefl}
 use native.Mathlib.Omega.{arith}
 use lib.ListN.{get_or}
 use Rattle.sets.specs.Sets.{has, ◌∩◌}
-use Rattle.sets.proofs.Truth.{So-not, not-So, equal_or}
-use Rattle.sets.proofs.Members.{has-zero, below_of_items}
+use Rattle.sets.proofs.Truth.{So-not, equal_or}
+use Rattle.sets.proofs.Members.{has-zero}
 use Rattle.sets.proofs.Order.{∩-iff}
 use Rattle.model.proofs.PassOrder.{before_iff, foremost_only}
 use Rattle.sets.specs.Extremes.{LowestItem}
@@ -76,9 +76,13 @@ module _ (ranks : List ℕ) (todo top rank : ℕ) (inv : Sinking ranks todo top 
           keyed = lowered;
         }
 
--- below all ranks: then no role has a key, and so none is to do
-pub sinking_out : (ranks : List ℕ) (todo top rank : ℕ) → Sinking ranks todo top rank → rank ≡ 0 → (key : ℕ → ℕ) → Keyed top ranks todo key → todo ≡ 0
-sinking_out ranks todo top rank inv e key h =
-    let none : todo < 1 =
-    below_of_items 0 todo (λ i _. not-So (has todo i) (λ t. let l = inv.bound key h i t in let z : ⊥ = omega arith in z)) in
-    omega arith
+-- below all ranks: then no role has a key, which none is that is to do
+pub sinking_out : (ranks : List ℕ) (todo top rank role : ℕ) → Sinking ranks todo top rank → rank ≡ 0 → LowestItem 128 todo role → NextRole ranks todo top role 0
+sinking_out ranks todo top rank role inv e low =
+    record {
+      small = low.small;
+      there = low.there;
+      low = omega arith;
+      first = λ c key b h. absurd (let l = inv.bound key h role low.there in let z : ⊥ = omega arith in z);
+      keyed = λ key h k t. absurd (let l = inv.bound key h k t in let z : ⊥ = omega arith in z);
+    }

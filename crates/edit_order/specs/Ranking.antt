@@ -32,7 +32,7 @@ pub record NextRole (ranks : List ℕ) (todo top role rank : ℕ) : Type 0 where
   pub first : (c : ℕ) (key : ℕ → ℕ) → todo < 2 ^ c → Keyed top ranks todo key → role ≡ foremost c key todo
   pub keyed : (key : ℕ → ℕ) → Keyed top ranks todo key → Keyed rank ranks todo key
 
--- what a pass takes up next, if anything: where none has a key above `top`, nothing is next only where nothing is to do
+-- what a pass takes up next: nothing where nothing is to do
 abbrev pub Next : List ℕ → ℕ → ℕ → Option Front → Type 0
-Next ranks todo top None = (key : ℕ → ℕ) → Keyed top ranks todo key → todo ≡ 0
+Next ranks todo top None = todo ≡ 0
 Next ranks todo top (Some front) = NextRole ranks todo top front.role front.rank

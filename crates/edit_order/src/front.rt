@@ -24,5 +24,7 @@ pub fn foremost(ranks: &Ranks, todo: Set128, top: usize) -> Option<Front>
             return Some(Front { role, rank });
         }
     }
-    None
+    // no rank has any of them: then they are none, or these are not their ranks
+    let role = todo.lowest()?;
+    Some(Front { role, rank: 0 })
 }

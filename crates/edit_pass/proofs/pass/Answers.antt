@@ -42,6 +42,6 @@ loop-front-preserved c = fewer-left (goal.at.loop-front-preserved c).After-remov
 
 pub returns : goal.returns
 returns c = record {
-  run_reached = taking_all _ _ _ _ _ _ _ _ _ _ c.loop-front.invariant (c.in_default.ensures _ c.loop-front.invariant.keyed);
+  run_reached = taking_all _ _ _ _ _ _ _ _ _ _ c.loop-front.invariant c.in_default.ensures;
   prepared_2 = taken_prepared _ _ _ _ _ _ _ _ _ _ c.loop-front.invariant _ c.requires.prepared;
 }

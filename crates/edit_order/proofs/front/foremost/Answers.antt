@@ -18,4 +18,4 @@ loop-rank-preserved c = let s = c.loop-rank.invariant.low in
     sinking_more _ _ _ _ c.loop-rank.invariant _ _ (omega arith) (sym (rank_is c.args.ranks.now _ _ (omega arith))) c.intersection.ensures c.in_default.ensures.told
 
 pub returns : goal.returns
-returns c = sinking_out _ _ _ _ c.loop-rank.invariant (omega arith)
+returns c = sinking_out _ _ _ _ _ c.loop-rank.invariant (omega arith) c.in_ok-role.ensures.told
