@@ -92,7 +92,7 @@
  * frame, and so on for each call; PANEL_STACK_ANY is the largest of these. They are measured, on the worst lists and
  * with glibc's memcpy and memset; an interrupt that runs on the same stack comes on top.
  */
-#define PANEL_CODE_BYTES 51200
+#define PANEL_CODE_BYTES 49152
 #define PANEL_STACK_ANY 38912
 #define PANEL_STACK_MINE 23552
 #define PANEL_STACK_STRIKE 23552

@@ -227,7 +227,7 @@ def main():
     for compiler, _, remedy in COMPILERS:
         if shutil.which(compiler) is None:
             sys.exit("tests/header.py: %s is missing: %s" % (compiler, remedy))
-    sources = [source for source in sorted((ROOT / "crates/panel_c/src").glob("*.rt"))]
+    sources = [source for name in ("panel_c", "call_*", "text_crew") for source in sorted((ROOT / "crates").glob(name + "/src/*.rt"))]
     crate = exported(sources)
     *header, constants, rest = declared()
     faults = list(differences(crate, header))

@@ -3,7 +3,8 @@
 From the contracts of the exported functions and of `serve` it follows each name to its definition, and from there to
 the names that the definition cites, until all are found. The page has to list just these: the definitions by file, and
 the names of the toolchain's libraries that they rest on. `--write` puts the lists into the page. Each exported function
-has the contract of `panel`'s function of its name, word for word.
+has the contract of `panel`'s function of its name, word for word; what an answer's words are, a struct of C on the one
+side and a `Result` on the other, each side defines for itself, so the names of both are followed.
 """
 import re
 import sys
@@ -135,7 +136,7 @@ def contracts(text):
 def collect():
     walk, calls = Walk(), []
     behind = dict(contracts((ROOT / BEHIND).read_text(encoding="utf-8")))
-    for source in SOURCES:
+    for source in (*SOURCES, BEHIND):
         text = (ROOT / source).read_text(encoding="utf-8")
         used = imports(text)
         for name, contract in contracts(text):
@@ -143,7 +144,8 @@ def collect():
                 raise Unknown("%s has a requires" % name)
             if name != "serve" and contract != behind.get(name):
                 raise Unknown("%s is exported with another contract than it has in %s" % (name, BEHIND))
-            calls.append(name)
+            if source != BEHIND:
+                calls.append(name)
             found = words(contract)
             for cited, module in used[0].items():
                 if uses(cited, found):

@@ -15,7 +15,8 @@ pub struct Counts {
     pub links: u64,
 }
 
-// The counts over the rows of the record's roles.
+// The counts over the rows of the record's roles. Three calls count, and each would have the sums, which the compiler widens, in its own code.
+#[inline(never)]
 pub fn count_rows(rec: &Record) -> Counts
     requires rec_bound { get_or rec.now 2 0 ≤ 128 }
     ensures result_value { counts_in result ≡ model.counted (get_or rec.now 2 0) (role_rows_of rec.now) (set_at 2 rec.now 4) }

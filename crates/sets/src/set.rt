@@ -10,7 +10,7 @@ ghost use Rattle.sets.specs.Walks.{FirstItem, LastItem};
 ghost use Rattle.sets.specs.Words.{value, word};
 
 use crate::items::Items;
-use crate::word::{bit_at, count_of, mask_below, place_of};
+use crate::word::{bit_at, count_of, highest_or, less_or, mask_below, place_of};
 use std::array;
 use std::cmp::Ordering;
 
@@ -121,7 +121,8 @@ impl<const WORDS: usize> Set<WORDS> {
     pub fn is_empty(self) -> bool
         ensures { result ≡ eqb (set_of self.entry) 0 }
     {
-        self == Self::empty()
+        // all words at once, without a branch for each
+        self.words.iter().fold(0, |all, w| all | *w) == 0
     }
 
     pub fn is_subset(self, other: Self) -> bool
@@ -136,21 +137,28 @@ impl<const WORDS: usize> Set<WORDS> {
         self.is_subset(other) & (self != other)
     }
 
-    // As numbers: the highest word in which they differ decides.
+    // As numbers.
     pub fn compare(self, other: Self) -> Ordering
         ensures { result ≡ nat_cmp (set_of self.entry) (set_of other.entry) }
     {
-        let differ = self.wordwise(other, |x, y| x ^ y);
-        match differ.words.iter().rposition(|w| *w != 0) {
-            None => Ordering::Equal,
-            Some(j) => self.words[j].cmp(&other.words[j]),
+        if other.less(self) {
+            Ordering::Greater
+        } else if self == other {
+            Ordering::Equal
+        } else {
+            Ordering::Less
         }
     }
 
+    // A word decides before those below it. All are compared, without a branch for each.
     pub fn less(self, other: Self) -> bool
         ensures { result ≡ ltb (set_of self.entry) (set_of other.entry) }
     {
-        self.compare(other).is_lt()
+        let mut less = false;
+        for j in 0..WORDS {
+            less = less_or(self.words[j], other.words[j], less);
+        }
+        less
     }
 
     pub fn count(self) -> usize
@@ -160,13 +168,18 @@ impl<const WORDS: usize> Set<WORDS> {
         self.words.iter().map(|w| count_of(*w)).sum()
     }
 
+    // A word is asked at its own place: what picks one by a computed place would put the set into memory.
     pub fn lowest(self) -> Option<usize>
         requires { 64 * WORDS < 2 ^ 64 }
         ensures value { result ≡ lowest (64 * WORDS) (set_of self.entry) }
         ensures told { FirstItem (64 * WORDS) (set_of self.entry) result }
     {
-        let j = self.words.iter().position(|w| *w != 0)?;
-        Some(64 * j + u64::trailing_zeros(self.words[j]) as usize)
+        for j in 0..WORDS {
+            if self.words[j] != 0 {
+                return Some(64 * j + u64::trailing_zeros(self.words[j]) as usize);
+            }
+        }
+        None
     }
 
     pub fn highest(self) -> Option<usize>
@@ -174,8 +187,11 @@ impl<const WORDS: usize> Set<WORDS> {
         ensures value { result ≡ highest (64 * WORDS) (set_of self.entry) }
         ensures told { LastItem (64 * WORDS) (set_of self.entry) result }
     {
-        let j = self.words.iter().rposition(|w| *w != 0)?;
-        Some(64 * j + (63 - u64::leading_zeros(self.words[j]) as usize))
+        let mut highest = None;
+        for j in 0..WORDS {
+            highest = highest_or(self.words[j], 64 * j, highest);
+        }
+        highest
     }
 
     // From the lowest up.

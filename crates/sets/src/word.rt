@@ -1,6 +1,6 @@
 // What a set of any width does with one of its words.
-ghost use Rattle.std.specs.Prelude.{◌≡◌, ◌-◌, ◌/◌, ◌%◌, ◌^◌, ◌≤◌, ◌<◌, min};
-ghost use Rattle.std.specs.Int.Count.{ones};
+ghost use Rattle.std.specs.Prelude.{Some, ◌≡◌, ◌+◌, ◌-◌, ◌/◌, ◌%◌, ◌^◌, ◌≤◌, ◌<◌, min, eqb, ltb};
+ghost use Rattle.std.specs.Int.Count.{ones, count_leading_zeros};
 ghost use Rattle.sets.specs.Sets.{◌∪◌, single};
 ghost use Rattle.sets.specs.Truth.{when◌then◌else◌};
 ghost use Rattle.sets.specs.Words.{word};
@@ -44,6 +44,24 @@ pub fn count_of(w: u64) -> usize
     ensures upper_bound { result ≤ 64 }
 {
     u64::count_ones(w) as usize
+}
+
+// Whether a is less than b; where they are equal, what the words below say.
+pub fn less_or(a: u64, b: u64, lower: bool) -> bool
+    ensures { result ≡ (when eqb a b then lower else ltb a b) }
+{
+    if a == b { lower } else { a < b }
+}
+
+// The highest item of a word whose first item is `at`, or else what the words below have.
+pub fn highest_or(w: u64, at: usize, below: Option<usize>) -> Option<usize>
+    requires { at + 64 ≤ 2 ^ 64 }
+    ensures { result ≡ (when eqb w 0 then below else Some (at + (63 - count_leading_zeros 64 w))) }
+{
+    if w == 0 {
+        return below;
+    }
+    Some(at + (63 - u64::leading_zeros(w) as usize))
 }
 
 // The items below n, of a word whose first item is `at`.

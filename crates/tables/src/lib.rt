@@ -58,21 +58,25 @@ pub fn copy(ws: &mut [u64], at: usize, src: &[u64])
     }
 }
 
-// Whether ws holds all of src, from place `at` on.
+// Whether ws holds all of src, from place `at` on. All words are compared, without a branch for each.
 pub fn equal_at(ws: &[u64], at: usize, src: &[u64]) -> bool
     requires { at + length src.now ≤ length ws.now }
     ensures { result ≡ all (length src.now) (λ i. eqb (get_or ws.now (at + i) 0) (get_or src.now i 0)) }
 {
-    &ws[at..at + src.len()] == src
+    let mut differing = 0;
+    for i in 0..src.len() {
+        differing |= ws[at + i] ^ src[i];
+    }
+    differing == 0
 }
 
-// Whether the words from place `from` on and before place `to` are zero.
+// Whether the words from place `from` on and before place `to` are zero, without a branch for each.
 pub fn zeros(ws: &[u64], from: usize, to: usize) -> bool
     requires from_le_to { from ≤ to }
     requires to_in_bounds { to ≤ length ws.now }
     ensures { So result ↔ ZeroFrom ws.now from to }
 {
-    ws[from..to].iter().all(|w| *w == 0)
+    ws[from..to].iter().fold(0, |found, w| found | *w) == 0
 }
 
 // Puts zero into every word.

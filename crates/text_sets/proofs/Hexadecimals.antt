@@ -16,9 +16,10 @@ use Rattle.sets.specs.Truth.{◌and◌, all}
 use Rattle.sets.specs.Words.{value, word}
 use Rattle.sets.proofs.Words.{value-nil, value-cons, value_words, word_quotient}
 use Rattle.sets.proofs.Truth.{not-So, when-true, when-false, and_iff, all_of, all_is, ltb_iff, leb_iff, either}
-use Rattle.text.specs.Digits.{digit_at, digit_byte}
+use Rattle.text.specs.Digits.{digit_of, digit_at, digit_byte}
 use Rattle.text.specs.Rest.{moved}
 use Rattle.text.specs.declared.rest.Rest.{Rest}
+use Rattle.text.proofs.Digits.{digit-cases}
 use Rattle.text.proofs.Bytes.{field_there, field_missing}
 use Rattle.text.proofs.Rests.{after_there, after_missing}
 use Rattle.stores.specs.Stores.{put_at}
@@ -82,6 +83,12 @@ pub hex_first : (d : ℕ) (text : List ℕ) (at k : ℕ) → So (hexadecimal_at 
 hex_first d text at k s h =
     let b : at + d ≤ length text = hex_end d text at s in
     (hex_iff k text at).1 (omega arith, λ i l. hex_digit d text at s i (omega arith))
+
+-- the value of a byte that is a digit, without asking which it is
+pub digit_bits : (b : ℕ) → digit_of b < 16 → bit_and b 15 + 9 * (b / 2 ^ 6) ≡ digit_of b
+digit_bits b h =
+    rw (and_mask b 4)
+    (digit-cases b (λ l m e. rw e (omega arith)) (λ l m e. rw e (omega arith)) (λ e. let n : 16 < 16 = rw e at h in absurd (omega arith)))
 
 -- ---- the value that they make
 

@@ -39,6 +39,17 @@ pub fn read_hexadecimal<'a>(rest: Rest<'a>, d: usize) -> Option<Rest<'a>>
     }
 }
 
+// The digit that stands i bytes further on, without a branch: 0 to 9 end in their value, a to f in 1 to 6.
+#[tactic(auto, using(crate::proofs::Hexadecimals::digit_bits), unfolding(text::specs::Digits::digit_at))]
+fn digit_there(rest: Rest, i: usize) -> u64
+    requires in_bounds { rest.at + i < length rest.text.now }
+    requires digit { digit_at rest.text.now (rest.at + i) < 16 }
+    ensures { result ≡ digit_at rest.entry.text.now (rest.entry.at + i) }
+{
+    let b = u64::from(rest.text[rest.at + i]);
+    (b & 15) + 9 * (b >> 6)
+}
+
 // The word that d digits make.
 #[tactic(auto, using(crate::proofs::Hexadecimals::value_laws), unfolding(crate::specs::Hexadecimal::hexadecimal_value, text::specs::Rest::moved))]
 fn word_of(rest: Rest, d: usize) -> u64
@@ -48,7 +59,7 @@ fn word_of(rest: Rest, d: usize) -> u64
 {
     let mut v = 0;
     for i in 0..d {
-        v = v * 16 + rest.skip(i).digit().unwrap().0;
+        v = v * 16 + digit_there(rest, i);
     }
     v
 }

@@ -1,19 +1,17 @@
--- `Set::compare` meets its contract: the highest word in which they differ decides.
+-- `Set::compare` meets its contract: the sets are in the other order, one, or in this order.
 -- Assumes nothing.
-use borrow.Author.Rules.{rules}
-use mathlib.Core.Path.{◌∙◌}
-use lib.Bits.{bit_xor}
+use mathlib.Core.Path.{◌≡◌, sym, ◌∙◌}
+use mathlib.Core.Bool.{false}
+use native.Mathlib.Omega.{arith}
+use lib.Dec.{eqb, ltb}
+use Rattle.std.proofs.lemmas.Bool.Decides.{nat_tests}
 use Rattle.sets.specs.Held.{set_of}
-use Rattle.sets.proofs.Compare.{top_decides, none_differ}
 use Rattle.sets.proofs.Written.{words}
+use Rattle.sets.proofs.Held.{equal_sets}
 use Rattle.sets.proofs.set.Set.compare.Goals as goal
 
-pub returns-in-None : goal.returns-in-None
-unfolding set_of
-returns-in-None g c = none_differ g.row.WORDS _ _ _ (search words) (search words) (search words) (search words)
-    (c.wordwise-differ.ensures bit_xor (λ x y t e. search rules)) (search rules)
-
-pub returns-in-Some : goal.returns-in-Some
-unfolding set_of
-returns-in-Some g c = c.cmp.ensures ∙ top_decides g.row.WORDS _ _ _ (search words) (search words) (search words) (search words)
-    (c.wordwise-differ.ensures bit_xor (λ x y t e. search rules)) c.in-Some.j (search rules) (search rules) (search rules)
+pub returns-else-eq : goal.returns-else-eq
+returns-else-eq g c =
+    let e : eqb (set_of c.args.self) (set_of c.args.other) ≡ false = sym (equal_sets c.args.self c.args.other (search words) (search words)) ∙ sym c.eq.ensures ∙ c.if-eq.false in
+    let l : ltb (set_of c.args.other) (set_of c.args.self) ≡ false = sym c.less.ensures ∙ c.if-less.false in
+    grind (arith, nat_tests, e, l)

@@ -1,19 +1,19 @@
--- `Set::highest` meets its contract: the last word with an item has it.
+-- `Set::highest` meets its contract: the highest item before word j is at hand.
 -- Assumes nothing.
-use borrow.Author.Rules.{rules}
-use mathlib.Core.Path.{◌∙◌}
+use mathlib.Core.Path.{refl}
 use Rattle.sets.specs.Held.{set_of}
-use Rattle.sets.proofs.Taken.{last_told}
-use Rattle.sets.proofs.Walked.{highest_found, highest_missing}
 use Rattle.sets.proofs.Written.{words, arr_lt}
+use Rattle.sets.proofs.Walked.{highest_more, highest_all}
+use Rattle.sets.proofs.Taken.{last_told}
 use Rattle.sets.proofs.set.Set.highest.Goals as goal
 
-pub returns-in_err-j : goal.returns-in_err-j
-unfolding set_of
-returns-in_err-j g c = let e = c.from_residual.ensures ∙ highest_missing g.row.WORDS c.args.self.words (search words) (search rules) in
-    record { value = e; told = last_told _ _ _ (arr_lt g.row.WORDS c.args.self.words (search words)) e }
+pub loop-j-init : goal.loop-j-init
+loop-j-init g c = refl
+
+pub loop-j-preserved : goal.loop-j-preserved
+loop-j-preserved g c = rw c.highest_or-highest.ensures (highest_more g.row.WORDS _ (search words) _ c.loop-j-test.true _ c.loop-j.invariant)
 
 pub returns : goal.returns
 unfolding set_of
-returns g c = let e = highest_found g.row.WORDS c.args.self.words (search words) c.in_ok-j.j (search rules) (search rules) (search rules) in
+returns g c = let e = highest_all g.row.WORDS c.args.self.words (search words) _ _ c.loop-j-test.false c.loop-j.invariant in
     record { value = e; told = last_told _ _ _ (arr_lt g.row.WORDS c.args.self.words (search words)) e }

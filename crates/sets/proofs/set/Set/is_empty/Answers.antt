@@ -1,9 +1,15 @@
--- `Set::is_empty` meets its contract.
+-- `Set::is_empty` meets its contract: the words joined are zero where each is.
 -- Assumes nothing.
-use mathlib.Core.Path.{◌∙◌}
-use Rattle.sets.proofs.Written.{words}
-use Rattle.sets.proofs.Held.{equal_sets}
+use borrow.Author.Rules.{rules}
+use mathlib.Core.Path.{◌≡◌}
+use lib.Bits.{bit_or}
+use Rattle.std.specs.Prelude.{fold}
+use Rattle.sets.specs.Held.{set_of}
+use Rattle.sets.proofs.Compare.{test_join}
 use Rattle.sets.proofs.set.Set.is_empty.Goals as goal
 
 pub returns : goal.returns
-returns g c = c.eq.ensures ∙ rw c.empty.ensures at (equal_sets c.args.self c.empty.result (search words) (search words))
+unfolding set_of
+returns g c =
+    let e : c.fold.result ≡ fold bit_or 0 c.args.self.words = search rules in
+    rw e (test_join c.args.self.words)
